@@ -1,0 +1,4 @@
+pub mod Limits
+pub mod Model
+pub mod Refusals
+pub mod Gathered

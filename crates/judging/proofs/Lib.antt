@@ -1,0 +1,12 @@
+pub mod Chains
+pub mod Degrees
+pub mod Flats
+pub mod Floods
+pub mod Found
+pub mod Marks
+pub mod Refilled
+pub mod Rings
+pub mod Rules
+pub mod Turns
+pub mod Verdicts
+pub mod Whole

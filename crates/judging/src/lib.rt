@@ -1,0 +1,3 @@
+//! Judging whether a gathered surface is closed and has no zero normal.
+pub mod judge;
+pub mod verdict;

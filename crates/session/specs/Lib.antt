@@ -1,0 +1,9 @@
+pub mod Spelled
+pub mod Reading
+pub mod Numbers
+pub mod Lines
+pub mod Gauges
+pub mod Held
+pub mod Replies
+pub mod Session
+pub mod Laws

@@ -1,0 +1,11 @@
+pub mod Surface
+pub mod Ring
+pub mod Closed
+pub mod Euler
+pub mod Pieces
+pub mod Geometry
+pub mod Collapse
+pub mod Permitted
+pub mod Read
+pub mod Laws
+pub mod Changes
