@@ -7,6 +7,7 @@ pub mod Marks
 pub mod Refilled
 pub mod Rings
 pub mod Rules
+pub mod Surveys
 pub mod Turns
 pub mod Verdicts
 pub mod Whole

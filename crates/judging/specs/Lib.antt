@@ -5,3 +5,4 @@ pub mod Chains
 pub mod Sides
 pub mod Rings
 pub mod Floods
+pub mod Tables

@@ -9,7 +9,10 @@ ghost use Rattle.judging.specs.Chains.{Chained};
 ghost use Rattle.gathering.specs.Limits.{Numbered, Differing};
 ghost use Rattle.gathering.specs.Model.{positions as positions-of, corners as corners-of, pointOf, surfaceOf};
 ghost use Rattle.judging.specs.Sides.{Paired};
+ghost use Rattle.judging.specs.Tables.{Surveyed};
 ghost use Rattle.judging.specs.Verdict.{FirstFlaw, Judged};
+use crate::tables::Survey;
+use crate::tables::Tables;
 use crate::verdict::Counts;
 use crate::verdict::Flaw;
 use crate::verdict::Verdict;
@@ -19,6 +22,7 @@ use geometry::Position;
 use pairing::Chains;
 use pairing::Pairs;
 use pairing::chains_of;
+use pairing::entries_of;
 use pairing::pairs_of;
 use pieces::count_pieces;
 use rings::first_unringed;
@@ -83,31 +87,44 @@ fn counts(n: usize, m: usize, pieces: u16) -> Counts
     }
 }
 
-/// The verdict on lists that keep to a gathering's limits.
-fn verdict(heap: Global, positions: &[Position], corners: &[u16]) -> Result<Verdict, AllocError>
+/// The survey of lists that keep to a gathering's limits.
+pub(crate) fn survey_of(
+    heap: Global,
+    positions: &[Position],
+    corners: &[u16],
+) -> Result<Survey, AllocError>
     requires numbered { ⌜ Numbered (now corners) (length (now positions)) ⌝ }
     requires differing { ⌜ Differing (now corners) ⌝ }
     requires few { ⌜ length (now corners) ≤ 6144 ⌝ }
     requires few_vertices { ⌜ length (now positions) ≤ 1024 ⌝ }
     requires threes { ⌜ length (now corners) % 3 ≡ 0 ⌝ }
-    ensures verdict { λ r. ⌜ made r (λ v. Judged (now (positions .entry)) (now (corners .entry)) v) ⌝ }
+    ensures surveyed { λ r. ⌜ made r (λ s. Surveyed (now (positions .entry)) (now (corners .entry)) s) ⌝ }
 {
     if corners.is_empty() {
-        return Ok(Verdict::Refused(Flaw::NoTriangle));
+        return Ok(Survey::Flawed(Flaw::NoTriangle));
     }
     let n = positions.len();
     let chains = chains_of(heap, corners, n)?;
     let pairs = pairs_of(heap, corners, &chains.last, &chains.link)?;
     if let Some(flaw) = first_flaw(positions, corners, &chains, &pairs) {
-        return Ok(Verdict::Refused(flaw));
+        return Ok(Survey::Flawed(flaw));
     }
     let pieces = count_pieces(heap, corners, &chains.last, &chains.link)?;
-    Ok(Verdict::Accepted(counts(n, corners.len() / 3, pieces)))
+    let twin = entries_of(heap, &pairs.twin)?;
+    let out = entries_of(heap, &chains.last)?;
+    Ok(Survey::Closed(Tables {
+        counts: counts(n, corners.len() / 3, pieces),
+        twin,
+        out,
+    }))
 }
 
 /// Whether the gathered triangles form a closed surface with no zero normal, and its counts if they do.
 pub fn judge(heap: Global, gathering: &Gathering) -> Result<Verdict, AllocError>
     ensures verdict { λ r. ⌜ made r (λ v. Judged (positions-of (now (gathering .entry))) (corners-of (now (gathering .entry))) v) ⌝ }
 {
-    verdict(heap, gathering.positions(), gathering.corners())
+    match survey_of(heap, gathering.positions(), gathering.corners())? {
+        Survey::Closed(tables) => Ok(Verdict::Accepted(tables.counts)),
+        Survey::Flawed(flaw) => Ok(Verdict::Refused(flaw)),
+    }
 }

@@ -78,4 +78,13 @@ impl Gathering {
     {
         self.corners.as_slice()
     }
+
+    /// Takes the gathering apart, into its positions and its corners.
+    pub fn into_parts(self) -> (Vec<Position>, Vec<u16>)
+        ensures positions { λ r. ⌜ r .0 ≡ self .positions ⌝ }
+        ensures corners { λ r. ⌜ r .1 ≡ self .corners ⌝ }
+    {
+        let Gathering { positions, corners } = self;
+        (positions, corners)
+    }
 }

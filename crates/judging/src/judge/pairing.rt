@@ -1,13 +1,16 @@
 //! The tables that judging works on.
 ghost use mathlib.Core.Path.{_≡_};
-ghost use Prim.Native.Nat.{_%_, _≤_};
-ghost use lib.ListN.{length, replicate};
+ghost use mathlib.Core.Bool.{true};
+ghost use Prim.Native.Nat.{ℕ, _%_, _<_, _≤_};
+ghost use lib.ListN.{length, getD, replicate};
 ghost use Rattle.std.specs.Of.Vec.{vec-items};
+ghost use Rattle.std.specs.Options.{isSome};
 ghost use Rattle.std.specs.Vec.{made};
 ghost use Rattle.std.specs.declared.option.Option.the-variants.{None};
 ghost use Rattle.gathering.specs.Limits.{Numbered};
 ghost use Rattle.judging.specs.Chains.{Chained};
 ghost use Rattle.judging.specs.Sides.{Paired};
+ghost use Rattle.judging.specs.Tables.{Entries};
 use super::chains::chain;
 use super::sides::pair_sides;
 use std::alloc::AllocError;
@@ -68,4 +71,16 @@ pub fn pairs_of(
     let mut twin = blanks(heap, corners.len())?;
     pair_sides(corners, last, link, &mut marks, &mut first, &mut twin);
     Ok(Pairs { first, twin })
+}
+
+/// The entries of a table that has no empty one.
+pub fn entries_of(heap: Global, table: &[Option<u16>]) -> Result<Vec<u16>, AllocError>
+    requires full { ⌜ ((k : ℕ) → k < length (now table) → isSome (getD (now table) k None) ≡ true) ⌝ }
+    ensures entries { λ r. ⌜ made r (λ v. Entries (now (table .entry)) (vec-items v)) ⌝ }
+{
+    let mut v = Vec::with_capacity(heap, table.len())?;
+    for entry in table {
+        v.push_reserved(entry.unwrap());
+    }
+    Ok(v)
 }

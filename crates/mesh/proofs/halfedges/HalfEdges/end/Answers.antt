@@ -1,0 +1,6 @@
+use Rattle.surface.specs.Read.{read}
+use Rattle.mesh.proofs.halfedges.HalfEdges.end.Needs as need
+
+pub returns : need.returns
+unfolding read
+returns c = record { value = cc (c .entry .ensures .value, c .deref .ensures .value, c .following .ensures .value) }

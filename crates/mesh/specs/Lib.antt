@@ -1,0 +1,12 @@
+pub mod Held
+pub mod Stages
+pub mod Kept
+pub mod Model
+pub mod Walks
+pub mod Edits
+pub mod Moves
+pub mod Opened
+pub mod Reads
+pub mod Refusals
+pub mod Calls
+pub mod Laws
