@@ -26,7 +26,9 @@ pub struct NoPair;
 /// What a gauge means: a setting and a capacity that are fixed, and an account with one entry for each opened vertex.
 pub trait Gauge {
     type Cost: Ordered + Copy;
+
     type Entry;
+
     type Setting;
 
     ghost setting: { Self → Self·Setting };

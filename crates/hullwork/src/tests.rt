@@ -84,27 +84,55 @@ fn needs_a_triangle(rt: LibcRuntime) -> Result<(), Fail> {
 
 #[test]
 fn needs_each_side_met_once(rt: LibcRuntime) -> Result<(), Fail> {
-    answers(&rt, b"V\0\0\0\0\0\0V\x04\0\0\0\0\0V\0\0\x04\0\0\0T\0\0\x01\0\x02\0O\0", b"refused 8 28\n")?;
-    answers(&rt, b"V\0\0\0\0\0\0V\x04\0\0\0\0\0V\0\0\x04\0\0\0T\0\0\x01\0\x02\0T\0\0\x01\0\x02\0O\0", b"refused 7 35\n")
+    answers(
+        &rt,
+        b"V\0\0\0\0\0\0V\x04\0\0\0\0\0V\0\0\x04\0\0\0T\0\0\x01\0\x02\0O\0",
+        b"refused 8 28\n",
+    )?;
+    answers(
+        &rt,
+        b"V\0\0\0\0\0\0V\x04\0\0\0\0\0V\0\0\x04\0\0\0T\0\0\x01\0\x02\0T\0\0\x01\0\x02\0O\0",
+        b"refused 7 35\n",
+    )
 }
 
 #[test]
 fn needs_one_ring_round_each_vertex(rt: LibcRuntime) -> Result<(), Fail> {
-    answers(&rt, b"V\0\0\0\0\0\0V\x04\0\0\0\0\0V\0\0\x04\0\0\0T\0\0\x01\0\x02\0T\0\0\x02\0\x01\0O\x01", b"refused 9 35\n")?;
-    answers(&rt, b"V\0\0\0\0\0\0V\x04\0\0\0\0\0V\0\0\x04\0\0\0V\0\0\0\0\x04\0V\x08\0\0\0\0\0V\x04\0\x04\0\0\0V\x04\0\0\0\x04\0T\0\0\x02\0\x01\0T\0\0\x01\0\x03\0T\0\0\x03\0\x02\0T\x01\0\x02\0\x03\0T\x01\0\x05\0\x04\0T\x01\0\x04\0\x06\0T\x01\0\x06\0\x05\0T\x04\0\x05\0\x06\0O\0", b"refused 9 105\n")
+    answers(
+        &rt,
+        b"V\0\0\0\0\0\0V\x04\0\0\0\0\0V\0\0\x04\0\0\0T\0\0\x01\0\x02\0T\0\0\x02\0\x01\0O\x01",
+        b"refused 9 35\n",
+    )?;
+    answers(
+        &rt,
+        b"V\0\0\0\0\0\0V\x04\0\0\0\0\0V\0\0\x04\0\0\0V\0\0\0\0\x04\0V\x08\0\0\0\0\0V\x04\0\x04\0\0\0V\x04\0\0\0\x04\0T\0\0\x02\0\x01\0T\0\0\x01\0\x03\0T\0\0\x03\0\x02\0T\x01\0\x02\0\x03\0T\x01\0\x05\0\x04\0T\x01\0\x04\0\x06\0T\x01\0\x06\0\x05\0T\x04\0\x05\0\x06\0O\0",
+        b"refused 9 105\n",
+    )
 }
 
 #[test]
 fn needs_normals_that_are_not_zero(rt: LibcRuntime) -> Result<(), Fail> {
-    answers(&rt, b"V\0\0\0\0\0\0V\x04\0\0\0\0\0V\x08\0\0\0\0\0V\0\0\0\0\x04\0T\0\0\x02\0\x01\0T\0\0\x01\0\x03\0T\0\0\x03\0\x02\0T\x01\0\x02\0\x03\0O\0", b"refused 10 56\n")
+    answers(
+        &rt,
+        b"V\0\0\0\0\0\0V\x04\0\0\0\0\0V\x08\0\0\0\0\0V\0\0\0\0\x04\0T\0\0\x02\0\x01\0T\0\0\x01\0\x03\0T\0\0\x03\0\x02\0T\x01\0\x02\0\x03\0O\0",
+        b"refused 10 56\n",
+    )
 }
 
 #[test]
 fn obeys_an_opened_surface(rt: LibcRuntime) -> Result<(), Fail> {
-    answers(&rt, b"V\0\0\0\0\0\0V\x04\0\0\0\0\0V\0\0\x04\0\0\0V\0\0\0\0\x04\0T\0\0\x02\0\x01\0T\0\0\x01\0\x03\0T\0\0\x03\0\x02\0T\x01\0\x02\0\x03\0O\0N\x01aV\x01\0\x01\0\x01\0T\0\0\x01\0\x02\0O\0WE", b"open 4 4 2 1\nrefused 23 58\nrefused 23 61\nrefused 23 68\nrefused 23 75\ntri 0 0 2 1\ntri 1 0 1 3\ntri 2 0 3 2\ntri 3 1 2 3\nend 4 4 2 1\n")
+    answers(
+        &rt,
+        b"V\0\0\0\0\0\0V\x04\0\0\0\0\0V\0\0\x04\0\0\0V\0\0\0\0\x04\0T\0\0\x02\0\x01\0T\0\0\x01\0\x03\0T\0\0\x03\0\x02\0T\x01\0\x02\0\x03\0O\0N\x01aV\x01\0\x01\0\x01\0T\0\0\x01\0\x02\0O\0WE",
+        b"open 4 4 2 1\nrefused 23 58\nrefused 23 61\nrefused 23 68\nrefused 23 75\ntri 0 0 2 1\ntri 1 0 1 3\ntri 2 0 3 2\ntri 3 1 2 3\nend 4 4 2 1\n",
+    )
 }
 
 #[test]
 fn counts_two_pieces(rt: LibcRuntime) -> Result<(), Fail> {
-    answers(&rt, b"V\0\0\0\0\0\0V\x04\0\0\0\0\0V\0\0\x04\0\0\0V\0\0\0\0\x04\0V\x14\0\0\0\0\0V\x18\0\0\0\0\0V\x14\0\x04\0\0\0V\x14\0\0\0\x04\0T\0\0\x02\0\x01\0T\0\0\x01\0\x03\0T\0\0\x03\0\x02\0T\x01\0\x02\0\x03\0T\x04\0\x06\0\x05\0T\x04\0\x05\0\x07\0T\x04\0\x07\0\x06\0T\x05\0\x06\0\x07\0O\x01E", b"open 8 8 4 2\nend 8 8 4 2\n")
+    answers(
+        &rt,
+        b"V\0\0\0\0\0\0V\x04\0\0\0\0\0V\0\0\x04\0\0\0V\0\0\0\0\x04\0V\x14\0\0\0\0\0V\x18\0\0\0\0\0V\x14\0\x04\0\0\0V\x14\0\0\0\x04\0T\0\0\x02\0\x01\0T\0\0\x01\0\x03\0T\0\0\x03\0\x02\0T\x01\0\x02\0\x03\0T\x04\0\x06\0\x05\0T\x04\0\x05\0\x07\0T\x04\0\x07\0\x06\0T\x05\0\x06\0\x07\0O\x01E",
+        b"open 8 8 4 2\nend 8 8 4 2\n",
+    )
 }

@@ -4,24 +4,63 @@ use mesh::mesh::Mesh;
 use mesh::mesh::opening::open;
 use std::error::AnyError;
 
-const OCTAHEDRON: [[u16; 3]; 6] =
-    [[20, 10, 10], [10, 20, 10], [0, 10, 10], [10, 0, 10], [10, 10, 20], [10, 10, 0]];
-const OCTAHEDRON_SIDES: [[u16; 3]; 8] =
-    [[0, 1, 4], [1, 2, 4], [2, 3, 4], [3, 0, 4], [1, 0, 5], [2, 1, 5], [3, 2, 5], [0, 3, 5]];
+const OCTAHEDRON: [[u16; 3]; 6] = [
+    [20, 10, 10],
+    [10, 20, 10],
+    [0, 10, 10],
+    [10, 0, 10],
+    [10, 10, 20],
+    [10, 10, 0],
+];
+
+const OCTAHEDRON_SIDES: [[u16; 3]; 8] = [
+    [0, 1, 4],
+    [1, 2, 4],
+    [2, 3, 4],
+    [3, 0, 4],
+    [1, 0, 5],
+    [2, 1, 5],
+    [3, 2, 5],
+    [0, 3, 5],
+];
+
 const TETRAHEDRON: [[u16; 3]; 4] = [[0, 0, 0], [9, 0, 0], [0, 9, 0], [0, 0, 9]];
+
 const TETRAHEDRON_SIDES: [[u16; 3]; 4] = [[0, 2, 1], [0, 1, 3], [0, 3, 2], [1, 2, 3]];
 // six rings of four vertices
 const TORUS: [[u16; 3]; 24] = [
-    [250, 127, 139], [200, 127, 165], [174, 127, 115], [224, 127, 89],
-    [189, 234, 139], [164, 190, 165], [150, 168, 115], [175, 211, 89],
-    [65, 234, 139], [90, 190, 165], [104, 168, 115], [79, 211, 89],
-    [4, 127, 139], [54, 127, 165], [80, 127, 115], [30, 127, 89],
-    [65, 20, 139], [90, 64, 165], [104, 86, 115], [79, 43, 89],
-    [189, 20, 139], [164, 64, 165], [150, 86, 115], [175, 43, 89],
+    [250, 127, 139],
+    [200, 127, 165],
+    [174, 127, 115],
+    [224, 127, 89],
+    [189, 234, 139],
+    [164, 190, 165],
+    [150, 168, 115],
+    [175, 211, 89],
+    [65, 234, 139],
+    [90, 190, 165],
+    [104, 168, 115],
+    [79, 211, 89],
+    [4, 127, 139],
+    [54, 127, 165],
+    [80, 127, 115],
+    [30, 127, 89],
+    [65, 20, 139],
+    [90, 64, 165],
+    [104, 86, 115],
+    [79, 43, 89],
+    [189, 20, 139],
+    [164, 64, 165],
+    [150, 86, 115],
+    [175, 43, 89],
 ];
 
 /// Gathers the vertices and the triangles.
-fn gather(rt: &LibcRuntime, vertices: &[[u16; 3]], triangles: &[[u16; 3]]) -> Result<Gathering, AnyError> {
+fn gather(
+    rt: &LibcRuntime,
+    vertices: &[[u16; 3]],
+    triangles: &[[u16; 3]],
+) -> Result<Gathering, AnyError> {
     let mut g = Gathering::new(rt.alloc())?;
     for v in vertices {
         let _ = g.vertex(v[0], v[1], v[2]);
@@ -96,7 +135,10 @@ fn thin(rt: &LibcRuntime, name: &str, gathering: Gathering) -> Result<(), AnyErr
     }
     let again = changed(&mesh, &corners);
     let end = mesh.position();
-    println!(rt, "{name}: {far} collapses change {thinned} half-edges, taken back {back}, done again {again}, at {end}")?;
+    println!(
+        rt,
+        "{name}: {far} collapses change {thinned} half-edges, taken back {back}, done again {again}, at {end}"
+    )?;
     Ok(())
 }
 

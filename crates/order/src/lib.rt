@@ -11,6 +11,9 @@ pub trait Ordered {
 
     law total: { (x y : Self) → atmost x y ⊎ atmost y x };
 
+    /// The order is told, as `at_most` tells it.
+    law told: { (x y : Self) → atmost x y ⊎ (atmost x y → ⊥) };
+
     law transitive: { (x y z : Self) → atmost x y → atmost y z → atmost x z };
 
     /// Whether `self` ranks at most as high as `other`.

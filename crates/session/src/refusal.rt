@@ -1,9 +1,9 @@
 //! What a session refuses, and by which number.
 ghost use mathlib.Core.Path.{_≡_};
 ghost use Rattle.session.specs.Numbers.{number as number-of};
-use judging::verdict::Flaw;
 use gathering::refusal::TriangleRefusal;
 use gathering::refusal::VertexRefusal;
+use judging::verdict::Flaw;
 
 /// Why a command, or the whole input, is refused.
 #[derive(Clone, Copy)]

@@ -19,6 +19,13 @@ impl HalfEdges {
         self.vertices.len()
     }
 
+    /// How many half-edges there are, of live and dead triangles.
+    pub fn half_edge_count(&self) -> usize
+        ensures value { λ r. ⌜ r ≡ vec-len (now (self .entry) .corners) ⌝ }
+    {
+        self.corners.len()
+    }
+
     /// Whether `h` is a half-edge of a live triangle.
     pub fn is_live(&self, h: u16) -> bool
         ensures value { λ r. ⌜ r ≡ held (now (self .entry)) .alive (h / 3) ⌝ }

@@ -1,0 +1,10 @@
+pub mod Preserves
+pub mod Singles
+pub mod Finite
+pub mod Deciding
+pub mod Least
+pub mod Ranks
+pub mod Chosen
+pub mod Totals
+pub mod Runs
+pub mod Accounts

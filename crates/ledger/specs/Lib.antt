@@ -1,0 +1,9 @@
+pub mod Numbers
+pub mod Book
+pub mod Choice
+pub mod Ledger
+pub mod Followed
+pub mod Agree
+pub mod Standing
+pub mod Folded
+pub mod Laws
