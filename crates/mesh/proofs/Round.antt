@@ -66,7 +66,7 @@ ring-tri {S} {v} {l} G i p = go (decLt (suc i) (length l))
         (a, b, renumber (ap (λ n. getD l n 0) k) s)
 
 module _ (e : HalfEdges) where
-  lap : {v o a b : ℕ} → Tri (held e) o v a b → (n : ℕ) × (n ≤ length (vec-items (e .twin))) × Lap (held e) (on e) v o n
+  pub lap : {v o a b : ℕ} → Tri (held e) o v a b → (n : ℕ) × (n ≤ length (vec-items (e .twin))) × Lap (held e) (on e) v o n
   lap {v} {o} t =
       let R = closed-held e in
       let (l, G) = R .ring v (R .known _ _ _ _ t) in

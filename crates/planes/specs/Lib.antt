@@ -1,0 +1,4 @@
+pub mod Quadrics
+pub mod Accounts
+pub mod Model
+pub mod Exact

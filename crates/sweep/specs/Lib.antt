@@ -1,0 +1,4 @@
+pub mod Sweeps
+pub mod Prices
+pub mod Shares
+pub mod Entries
