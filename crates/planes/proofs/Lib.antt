@@ -6,3 +6,4 @@ pub mod Entries
 pub mod Volumes
 pub mod Values
 pub mod Exact
+pub mod OnMesh

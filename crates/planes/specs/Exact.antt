@@ -5,13 +5,16 @@ use mathlib.Core.List.{List}
 use mathlib.Core.Logic.{_≢_}
 use Prim.Native.Nat.{ℕ, zero, suc, _+_, _*_, _/_, _^_, _<_, _≤_}
 use lib.Dec.{eqb}
-use lib.ListN.{getD}
+use lib.ListN.{length, getD}
+use Rattle.std.specs.Of.Vec.{vec-items}
 use lib.IntN.{ℤ, pos, natAbs}
-use Rattle.surface.specs.Surface.{Surface}
+use Rattle.surface.specs.Surface.{Surface, Side}
 use Rattle.surface.specs.Geometry.{Vector, sixVolume}
 use Rattle.surface.specs.Euler.{total}
 use Rattle.surface.specs.Collapse.{rename}
+use Rattle.mesh.specs.Model.{surface, opening as opened, points, log as logOf}
 use Rattle.mesh.specs.Stages.{recordAt}
+use Rattle.mesh.specs.declared.mesh.Mesh.{Mesh}
 use Rattle.mesh.specs.declared.record.Record.{Record}
 use Rattle.gauge.specs.Accounts.{changed, TwoOf}
 use Rattle.planes.specs.declared.quadric.Quadric.{Quadric}
@@ -64,3 +67,13 @@ ExactSum =
     let account : List Quadric = merged (opening S P n) log k in
     let sum : ℕ = squares S P (λ c. eqb (standing log k c) u || eqb (standing log k c) w) (P w) in
     (price (getD account u quadrics.zero) (getD account w quadrics.zero) (P w) ≡ sum) × (sum < 2 ^ 64)
+
+-- on a mesh, wherever it stands on its log: where (u, w) is a side, the price on the opening account with the done records merged is the
+-- exact sum of the squares, at the point of w, over the corners of the opened triangles that stand in u or w
+abbrev pub ExactOnMesh : Type 0
+ExactOnMesh =
+    (m : Mesh) → ((v : ℕ) → Bytes (points m v)) →
+    (u w : ℕ) → Side (surface m) u w →
+    let account : List Quadric = merged (opening (opened m) (points m) (length (vec-items (m .positions)))) (logOf m) (m .position) in
+    let sum : ℕ = squares (opened m) (points m) (λ c. eqb (standing (logOf m) (m .position) c) u || eqb (standing (logOf m) (m .position) c) w) (points m w) in
+    (price (getD account u quadrics.zero) (getD account w quadrics.zero) (points m w) ≡ sum) × (sum < 2 ^ 64)
