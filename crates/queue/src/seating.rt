@@ -34,7 +34,7 @@ fn counted(heap: Global, n: usize) -> Result<Vec<u16>, AllocError>
 
 impl Seating {
     /// The numbers below `limit`, each on the seat of its own number.
-    pub fn new(heap: Global, limit: usize) -> Result<Seating, AllocError>
+    pub(super) fn new(heap: Global, limit: usize) -> Result<Seating, AllocError>
         requires { ⌜ limit ≤ 6144 ⌝ }
         ensures { λ r. ⌜ made r (λ s. vec-len (s .number) ≡ limit) ⌝ }
     {
@@ -44,7 +44,7 @@ impl Seating {
     }
 
     /// The number on a seat.
-    pub fn number(&self, seat: usize) -> usize
+    pub(super) fn number(&self, seat: usize) -> usize
         requires { ⌜ seat < vec-len (now self .number) ⌝ }
         ensures value { λ r. ⌜ r ≡ getD (vec-items (now (self .entry) .number)) seat 0 ⌝ }
         ensures bound { λ r. ⌜ r < vec-len (now (self .entry) .number) ⌝ }
@@ -53,7 +53,7 @@ impl Seating {
     }
 
     /// The seat of a number.
-    pub fn seat(&self, number: usize) -> usize
+    pub(super) fn seat(&self, number: usize) -> usize
         requires { ⌜ number < vec-len (now self .number) ⌝ }
         ensures there { λ r. ⌜ getD (vec-items (now (self .entry) .number)) r 0 ≡ number ⌝ }
         ensures bound { λ r. ⌜ r < vec-len (now (self .entry) .number) ⌝ }
@@ -62,7 +62,7 @@ impl Seating {
     }
 
     /// The numbers on two seats change places.
-    pub fn exchange(&mut self, a: usize, b: usize)
+    pub(super) fn exchange(&mut self, a: usize, b: usize)
         requires a_within { ⌜ a < vec-len (now self .number) ⌝ }
         requires b_within { ⌜ b < vec-len (now self .number) ⌝ }
         ensures items { λ _. ⌜ vec-items (now (self .exit) .number) ≡ exchanged (vec-items (now (self .entry) .number)) a b ⌝ }

@@ -6,3 +6,11 @@ pub mod Walked
 pub mod Nears
 pub mod StillRight
 pub mod OnMeshes
+pub mod Books
+pub mod Ties
+pub mod Astrides
+pub mod Outcomes
+pub mod Steps
+pub mod Goes
+pub mod Runs
+pub mod Openings

@@ -8,7 +8,7 @@ ghost use Rattle.gathering.specs.Limits.{Numbered};
 ghost use Rattle.judging.specs.Chains.{Chained};
 
 /// The next half-edge of the same triangle.
-pub fn following(h: usize) -> usize
+pub(super) fn following(h: usize) -> usize
     requires small { ⌜ h < 6144 ⌝ }
     ensures value { λ r. ⌜ r ≡ next h ⌝ }
 {
@@ -16,7 +16,7 @@ pub fn following(h: usize) -> usize
 }
 
 /// Chains the half-edges that begin at one vertex, from the last to the first.
-pub fn chain(corners: &[u16], last: &mut [Option<u16>], link: &mut [Option<u16>])
+pub(super) fn chain(corners: &[u16], last: &mut [Option<u16>], link: &mut [Option<u16>])
     requires numbered { ⌜ Numbered (now corners) (length (now last)) ⌝ }
     requires few { ⌜ length (now corners) ≤ 6144 ⌝ }
     requires room { ⌜ length (now link) ≡ length (now corners) ⌝ }

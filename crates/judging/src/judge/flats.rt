@@ -11,7 +11,7 @@ use geometry::Position;
 use geometry::is_flat;
 
 /// The lowest triangle whose normal is zero.
-pub fn first_flat(positions: &[Position], corners: &[u16]) -> Option<u16>
+pub(super) fn first_flat(positions: &[Position], corners: &[u16]) -> Option<u16>
     requires numbered { ⌜ Numbered (now corners) (length (now positions)) ⌝ }
     requires few { ⌜ length (now corners) ≤ 6144 ⌝ }
     requires threes { ⌜ length (now corners) % 3 ≡ 0 ⌝ }

@@ -18,14 +18,14 @@ use std::alloc::Global;
 
 /// The half-edges by the vertex at which they begin.
 #[derive(Drop)]
-pub struct Chains {
+pub(super) struct Chains {
     pub last: Vec<Option<u16>>,
     pub link: Vec<Option<u16>>,
 }
 
 /// The half-edges by the ordered pair along which they lead.
 #[derive(Drop)]
-pub struct Pairs {
+pub(super) struct Pairs {
     pub first: Vec<Option<u16>>,
     pub twin: Vec<Option<u16>>,
 }
@@ -42,7 +42,7 @@ fn blanks(heap: Global, n: usize) -> Result<Vec<Option<u16>>, AllocError>
 }
 
 /// Chains the half-edges of a surface with `n` vertices.
-pub fn chains_of(heap: Global, corners: &[u16], n: usize) -> Result<Chains, AllocError>
+pub(super) fn chains_of(heap: Global, corners: &[u16], n: usize) -> Result<Chains, AllocError>
     requires numbered { ⌜ Numbered (now corners) n ⌝ }
     requires few { ⌜ length (now corners) ≤ 6144 ⌝ }
     ensures chained { λ r. ⌜ made r (λ p. Chained (now (corners .entry)) n (vec-items (p .last)) (vec-items (p .link))) ⌝ }
@@ -54,7 +54,7 @@ pub fn chains_of(heap: Global, corners: &[u16], n: usize) -> Result<Chains, Allo
 }
 
 /// Pairs the half-edges.
-pub fn pairs_of(
+pub(super) fn pairs_of(
     heap: Global,
     corners: &[u16],
     last: &[Option<u16>],
@@ -74,7 +74,7 @@ pub fn pairs_of(
 }
 
 /// The entries of a table that has no empty one.
-pub fn entries_of(heap: Global, table: &[Option<u16>]) -> Result<Vec<u16>, AllocError>
+pub(super) fn entries_of(heap: Global, table: &[Option<u16>]) -> Result<Vec<u16>, AllocError>
     requires full { ⌜ ((k : ℕ) → k < length (now table) → isSome (getD (now table) k None) ≡ true) ⌝ }
     ensures entries { λ r. ⌜ made r (λ v. Entries (now (table .entry)) (vec-items v)) ⌝ }
 {

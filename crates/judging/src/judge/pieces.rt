@@ -15,7 +15,7 @@ use std::alloc::AllocError;
 use std::alloc::Global;
 
 /// How many pieces the triangles and vertices form.
-pub fn count_pieces(
+pub(super) fn count_pieces(
     heap: Global,
     corners: &[u16],
     last: &[Option<u16>],

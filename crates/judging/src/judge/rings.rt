@@ -92,7 +92,7 @@ fn is_ringed(
 }
 
 /// The first vertex without a ring.
-pub fn first_unringed(
+pub(super) fn first_unringed(
     corners: &[u16],
     last: &[Option<u16>],
     link: &[Option<u16>],

@@ -78,7 +78,7 @@ fn match_sides(
 }
 
 /// Pairs all half-edges.
-pub fn pair_sides(
+pub(super) fn pair_sides(
     corners: &[u16],
     last: &[Option<u16>],
     link: &[Option<u16>],

@@ -1,0 +1,11 @@
+pub mod Quarters
+pub mod Counts
+pub mod Fills
+pub mod Lows
+pub mod Drawings
+pub mod Renumbered
+pub mod Sealing
+pub mod Shapes
+pub mod Returned
+pub mod Takings
+pub mod Fitting
