@@ -21,7 +21,11 @@ fn lower(lowest: usize, h: usize, entry: Option<u16>) -> usize
 }
 
 /// The lowest triangle with a side that is a side once more.
-pub(super) fn first_twice(corners: &[u16], first: &[Option<u16>], twin: &[Option<u16>]) -> Option<u16>
+pub(super) fn first_twice(
+    corners: &[u16],
+    first: &[Option<u16>],
+    twin: &[Option<u16>],
+) -> Option<u16>
     requires few { ⌜ length (now corners) ≤ 6144 ⌝ }
     requires threes { ⌜ length (now corners) % 3 ≡ 0 ⌝ }
     requires paired { ⌜ Paired (now corners) (now first) (now twin) ⌝ }
@@ -39,7 +43,11 @@ pub(super) fn first_twice(corners: &[u16], first: &[Option<u16>], twin: &[Option
 }
 
 /// The lowest triangle with a side that no side meets.
-pub(super) fn first_unmet(corners: &[u16], first: &[Option<u16>], twin: &[Option<u16>]) -> Option<u16>
+pub(super) fn first_unmet(
+    corners: &[u16],
+    first: &[Option<u16>],
+    twin: &[Option<u16>],
+) -> Option<u16>
     requires few { ⌜ length (now corners) ≤ 6144 ⌝ }
     requires threes { ⌜ length (now corners) % 3 ≡ 0 ⌝ }
     requires paired { ⌜ Paired (now corners) (now first) (now twin) ⌝ }
