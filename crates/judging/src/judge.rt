@@ -69,7 +69,7 @@ fn first_flaw(
     }
 }
 
-/// The counts of a closed surface: two unordered sides to three triangles' three sides.
+/// The counts of a closed surface of `n` vertices and `m` triangles: three unordered sides to two triangles.
 fn counts(n: usize, m: usize, pieces: u16) -> Counts
     requires few_vertices { ⌜ n ≤ 1024 ⌝ }
     requires few_triangles { ⌜ m ≤ 2048 ⌝ }
