@@ -1,2 +1,3 @@
 pub mod Near
 pub mod Accounts
+pub mod Numbers

@@ -11,6 +11,7 @@ ghost use Rattle.surface.specs.Surface.{Surface, Side};
 ghost use Rattle.surface.specs.Geometry.{Vector};
 ghost use Rattle.mesh.specs.Model.{surface as surface-of, points as points-of};
 ghost use Rattle.gauge.specs.Near.{Placed, near};
+ghost use Rattle.gauge.specs.Numbers.{tooManyVerticesNumber, noPairNumber};
 ghost use Rattle.gauge.specs.Accounts.{changed, TwoOf, NotTwoOf};
 use mesh::mesh::Mesh;
 use order::Ordered;
@@ -22,6 +23,24 @@ pub struct TooManyVertices;
 /// The two are not two opened vertices.
 #[derive(Clone, Copy)]
 pub struct NoPair;
+
+impl TooManyVertices {
+    /// The number of the refusal.
+    pub fn number(self) -> u8
+        ensures value { λ r. ⌜ r ≡ tooManyVerticesNumber ⌝ }
+    {
+        12
+    }
+}
+
+impl NoPair {
+    /// The number of the refusal.
+    pub fn number(self) -> u8
+        ensures value { λ r. ⌜ r ≡ noPairNumber ⌝ }
+    {
+        13
+    }
+}
 
 /// What a gauge means: a setting and a capacity that are fixed, and an account with one entry for each opened vertex.
 pub trait Gauge {
