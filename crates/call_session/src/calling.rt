@@ -92,7 +92,7 @@ fn go_reply<'a>(target: usize, outcome: Option<usize>) -> Reply<'a>
 
 /// Makes a call on an opened surface, and answers the reply to it.
 pub fn make_call<'a, G: Gauge>(opened: &mut Opened<G>, call: Call) -> Reply<'a>
-    ensures replied { Consistent G.Gauge Cost-as-Ordered opened.old → CalledOn G.Gauge Cost-as-Ordered opened.old call result opened.new }
+    ensures replied { Consistent G.Gauge G.Cost.Ordered opened.old → CalledOn G.Gauge G.Cost.Ordered opened.old call result opened.new }
 {
     match call {
         Call::Collapse(u, w) => collapse_reply::<G>(u, w, opened.collapse(u, w)),

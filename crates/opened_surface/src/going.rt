@@ -13,7 +13,7 @@ use queue::Queue;
 
 /// Takes the last `count` collapses back.
 fn go_back<G: Gauge>(mesh: &mut Mesh, gauge: &mut G, stale: &mut Stale, count: usize)
-    ensures placed { count ≤ mesh.old.position → PlacedBy G.Gauge Cost-as-Ordered mesh.old gauge.old stale.old (mesh.old.position - count) mesh.new gauge.new stale.new }
+    ensures placed { count ≤ mesh.old.position → PlacedBy G.Gauge G.Cost.Ordered mesh.old gauge.old stale.old (mesh.old.position - count) mesh.new gauge.new stale.new }
 {
     for _ in 0..count {
         do_split(mesh, gauge, stale);

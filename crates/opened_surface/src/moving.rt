@@ -111,7 +111,7 @@ fn astride_ahead(mesh: &Mesh) -> Option<(Record, u16, u16)>
 
 /// Takes the last collapse back, if one is done, and answers the new position. The queue stays as it is.
 pub(crate) fn do_split<G: Gauge>(mesh: &mut Mesh, gauge: &mut G, stale: &mut Stale) -> Option<usize>
-    ensures follows { FollowsBy G.Gauge Cost-as-Ordered mesh.old gauge.old stale.old Split (split_answer result) mesh.new gauge.new stale.new }
+    ensures follows { FollowsBy G.Gauge G.Cost.Ordered mesh.old gauge.old stale.old Split (split_answer result) mesh.new gauge.new stale.new }
     ensures unchanged { IfNone result ((mesh.new ≡ mesh.old) × (gauge.new ≡ gauge.old)) }
 {
     let Some(last) = mesh.split() else {

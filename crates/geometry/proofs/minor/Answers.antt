@@ -3,8 +3,8 @@ use Rattle.std.proofs.lemmas.Int.{to_z-of_z}
 use Rattle.geometry.proofs.Bounds.{mul_bounded, sub_bounded, fits_64}
 use Rattle.geometry.proofs.minor.Goals as goal
 
-pub overflow-sub-result : goal.overflow-sub-result
-overflow-sub-result c =
+pub overflow_sub-result : goal.overflow_sub-result
+overflow_sub-result c =
     let x = c.args in
     let p = mul_bounded 255 255 x.a x.d c.requires.small.0 c.requires.small.3 in
     let q = mul_bounded 255 255 x.b x.c c.requires.small.1 c.requires.small.2 in

@@ -108,7 +108,7 @@ pub fn open<G: Gauge>(
     gathering: Gathering,
     gauge: G,
 ) -> Result<Opened<G>, Unopened<G>>
-    ensures outcome { Opens G.Gauge Cost-as-Ordered gathering gauge result }
+    ensures outcome { Opens G.Gauge G.Cost.Ordered gathering gauge result }
 {
     if gauge.most_vertices() < gathering.positions().len() {
         let why = why_large(heap, &gathering);

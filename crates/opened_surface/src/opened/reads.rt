@@ -40,7 +40,7 @@ impl<G: Gauge> Opened<G> {
 
     /// The counts of the surface as it is now.
     pub fn counts(&self) -> Counts
-        ensures counted { Consistent G.Gauge Cost-as-Ordered self.now → Counted (surface_of self.now.mesh) (triangle_slots self.now.mesh) (vertex_slots self.now.mesh) result }
+        ensures counted { Consistent G.Gauge G.Cost.Ordered self.now → Counted (surface_of self.now.mesh) (triangle_slots self.now.mesh) (vertex_slots self.now.mesh) result }
     {
         let edges = self.mesh.edges();
         let mut counts = self.counts;

@@ -23,7 +23,7 @@ pub fn thin<G: Gauge>(
     gauge: G,
     calls: &[Call],
 ) -> Result<Thinned<G>, Unopened<G>>
-    ensures outcome { Thins G.Gauge Cost-as-Ordered gathering gauge calls.now result }
+    ensures outcome { Thins G.Gauge G.Cost.Ordered gathering gauge calls.now result }
 {
     let Ok(mut answers) = Vec::with_capacity(heap, calls.len()) else {
         return Err(Unopened {

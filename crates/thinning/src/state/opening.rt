@@ -29,7 +29,7 @@ pub(crate) struct Refused<G> {
 
 /// Opens the account of a mesh and gives each of its half-edges its key, or hands the mesh and the gauge back.
 pub(crate) fn begin<G: Gauge>(heap: Global, mesh: Mesh, gauge: G) -> Result<Opened<G>, Refused<G>>
-    ensures begun { MatchResult result (Began G.Gauge Cost-as-Ordered mesh gauge) (λ f. (f.mesh ≡ mesh) × (f.gauge ≡ gauge) × Unready G.Gauge mesh gauge f.why) }
+    ensures begun { MatchResult result (Began G.Gauge G.Cost.Ordered mesh gauge) (λ f. (f.mesh ≡ mesh) × (f.gauge ≡ gauge) × Unready G.Gauge mesh gauge f.why) }
 {
     let count = mesh.edges().half_edge_count();
     let Ok(mut queue) = Queue::new(heap, count) else {
@@ -71,7 +71,7 @@ pub(crate) fn open<G: Gauge>(
     gathering: Gathering,
     gauge: G,
 ) -> Result<Opening<G>, Unopened<G>>
-    ensures outcome { Opens G.Gauge Cost-as-Ordered gathering gauge result }
+    ensures outcome { Opens G.Gauge G.Cost.Ordered gathering gauge result }
 {
     match meshes::open(heap, gathering) {
         Ok(meshes::Opening { mesh, counts }) => match begin(heap, mesh, gauge) {

@@ -2,10 +2,10 @@ use Rattle.std.proofs.Common.{Some, vec_items, ap}
 use Rattle.queue.proofs.Steps.{change_filled, change_ranked, seat_present}
 use Rattle.queue.proofs.Queue.change.Goals as goal
 
-pub invariant-of-self : goal.invariant-of-self
-invariant-of-self g c =
+pub invariant_of-self : goal.invariant_of-self
+invariant_of-self g c =
     let q = c.args.self.now in
-    (q.even, (q.counted, (change_filled q c.args.number c.seat-seat.result c.seat-seat.ensures c.args.key c.requires.within c.requires.present, tt)))
+    record { even = q.even; counted = q.counted; filled = change_filled q c.args.number c.seat-seat.result c.seat-seat.ensures c.args.key c.requires.within c.requires.present }
 
 pub returns : goal.returns
 returns g c =

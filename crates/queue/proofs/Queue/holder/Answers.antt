@@ -7,4 +7,4 @@ pub returns : goal.returns
 returns g c =
     let q = c.args.self.now in
     let laws = g.met.C.Ordered in
-    record { held = ap (λ n. get_or (keys_of q) n None) c.number.ensures.value ∙ c.key-on.ensures; least = first_least g.C.Ordered laws.total laws.transitive q c.args.seat c.key-on.result c.key-on.ensures }
+    record { held = ap (λ n. get_or (keys_of q) n None) c.number.ensures.value ∙ c.key_on.ensures; least = first_least g.C.Ordered laws.total laws.transitive q c.args.seat c.key_on.result c.key_on.ensures }

@@ -2,19 +2,13 @@ use Rattle.std.proofs.Common.{Some, vec_items, ap, ◌∙◌, arith}
 use Rattle.queue.proofs.Steps.{insert_filled, insert_ranked, seat_absent}
 use Rattle.queue.proofs.Queue.insert.Goals as goal
 
-pub invariant-of-self : goal.invariant-of-self
-invariant-of-self g c =
+pub invariant_of-self : goal.invariant_of-self
+invariant_of-self g c =
     let q = c.args.self.now in
     let n = c.args.number in
     let a = c.seat-seat.result in
     let found = c.seat-seat.ensures in
-    let le = seat_absent q n a found c.requires.absent in (
-      c.exchange.ensures.len ∙ q.even,
-      (
-        omega (arith, le, found.bound, q.even),
-        (insert_filled q n a found c.exchange.new.self c.exchange.ensures c.args.key c.requires.within le, tt),
-      ),
-    )
+    let le = seat_absent q n a found c.requires.absent in record { even = c.exchange.ensures.len ∙ q.even; counted = omega (arith, le, found.bound, q.even); filled = insert_filled q n a found c.exchange.new.self c.exchange.ensures c.args.key c.requires.within le }
 
 pub returns : goal.returns
 returns g c =

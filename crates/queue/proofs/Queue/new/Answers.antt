@@ -3,9 +3,9 @@ use lib.ListN.{length-replicate}
 use Rattle.queue.proofs.Fills.{none_filled}
 use Rattle.queue.proofs.Queue.new.Goals as goal
 
-pub invariant-of-result : goal.invariant-of-result
-invariant-of-result g c =
+pub invariant_of-result : goal.invariant_of-result
+invariant_of-result g c =
     let keys = c.in-Ok.keys in
     let empty = c.in-Ok.ensures in
     let long = ap length empty ∙ length-replicate c.args.limit None in
-    (omega (arith, long, c.in-Ok-new.ensures, keys.ok.0), (omega arith, (none_filled _ (vec_items keys) c.args.limit empty, tt)))
+    record { even = omega (arith, long, c.in-Ok-new.ensures, keys.ok.0); counted = omega arith; filled = none_filled _ (vec_items keys) c.args.limit empty }

@@ -2,19 +2,13 @@ use Rattle.std.proofs.Common.{◌≡◌, ◌+◌, ◌-◌, vec_items, refl, ap, 
 use Rattle.queue.proofs.Steps.{remove_filled, remove_last_ranked, remove_ranked, seat_present}
 use Rattle.queue.proofs.Queue.remove.Goals as goal
 
-pub invariant-of-self : goal.invariant-of-self
-invariant-of-self g c =
+pub invariant_of-self : goal.invariant_of-self
+invariant_of-self g c =
     let q = c.args.self.now in
     let n = c.args.number in
     let a = c.seat-seat.result in
     let found = c.seat-seat.ensures in
-    let e : q.count ≡ q.count - 1 + 1 = omega (arith, seat_present q n a found c.requires.present) in (
-      c.exchange.ensures.len ∙ q.even,
-      (
-        omega (arith, q.counted),
-        (remove_filled q n a found (q.count - 1) e c.exchange.new.self c.exchange.ensures c.requires.within (seat_present q n a found c.requires.present), tt),
-      ),
-    )
+    let e : q.count ≡ q.count - 1 + 1 = omega (arith, seat_present q n a found c.requires.present) in record { even = c.exchange.ensures.len ∙ q.even; counted = omega (arith, q.counted); filled = remove_filled q n a found (q.count - 1) e c.exchange.new.self c.exchange.ensures c.requires.within (seat_present q n a found c.requires.present) }
 
 pub returns-then-seat-last : goal.returns-then-seat-last
 returns-then-seat-last g c =

@@ -17,4 +17,4 @@ pub returns : goal.returns
 returns g c =
     let laws = g.met.C.Ordered in
     let inv = c.loop-down.invariant in
-    record { keys = inv.1; sound = λ h. sunk g.C.Ordered laws.total laws.transitive c.loop-down.self c.loop-down.seat c.in-default.ensures (inv.2 h) }
+    record { keys = inv.1; sound = λ h. sunk g.C.Ordered laws.total laws.transitive c.loop-down.self c.loop-down.seat c.in_default.ensures (inv.2 h) }

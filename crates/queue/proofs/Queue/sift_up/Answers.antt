@@ -17,4 +17,4 @@ pub returns : goal.returns
 returns g c =
     let laws = g.met.C.Ordered in
     let inv = c.loop-up.invariant in
-    record { keys = inv.1; sound = λ h. risen g.C.Ordered laws.total laws.transitive c.loop-up.self c.loop-up.seat c.in-default.ensures (inv.2 h) }
+    record { keys = inv.1; sound = λ h. risen g.C.Ordered laws.total laws.transitive c.loop-up.self c.loop-up.seat c.in_default.ensures (inv.2 h) }

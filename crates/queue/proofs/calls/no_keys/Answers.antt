@@ -10,4 +10,4 @@ all_new xs old n m x e none zero' =
 pub returns : goal.returns
 returns g c =
     let made = c.new-keys.ensures in
-    all_new _ _ _ _ _ c.in-ok-resize.ensures.items made.items made.len
+    all_new _ _ _ _ _ c.in_ok-resize.ensures.items made.items made.len

@@ -5,8 +5,8 @@ use Rattle.mesh.specs.Held.{TwinsLive, OutLive}
 use Rattle.mesh.proofs.Openings.{whole_read}
 use Rattle.mesh.proofs.halfedges.HalfEdges.all_live.Goals as goal
 
-pub invariant-of-result : goal.invariant-of-result
-invariant-of-result c =
+pub invariant_of-result : goal.invariant_of-result
+invariant_of-result c =
     let cs = c.args.corners.now in
     let n = c.args.n in
     let t = c.requires.tabled in

@@ -50,8 +50,8 @@ pub index-mut-requires : goal.index-mut-requires
 index-mut-requires c =
     joins.u_low c.args.self.now c.args.e c.requires.live c.index-f.result.now c.index-f.ensures c.index-u.result.now c.index-u.ensures
 
-pub invariant-of-self : goal.invariant-of-self
-invariant-of-self c =
+pub invariant_of-self : goal.invariant_of-self
+invariant_of-self c =
     let x = c.args.self.now in
     let H =
     joins.steps x c.args.e c.requires.live c.index-f.result.now c.index-u.result.now c.index-w.result.now

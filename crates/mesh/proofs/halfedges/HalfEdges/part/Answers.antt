@@ -52,8 +52,8 @@ index-mut-requires-2 c =
     let (S, w, H) = c.requires.taken in
     parts.v_out c.args.self.now S c.args.u w H c.index-e.result.now c.index-e.ensures c.index-f.result.now c.index-f.ensures c.index-w.result.now c.index-w.ensures
 
-pub invariant-of-self : goal.invariant-of-self
-invariant-of-self c =
+pub invariant_of-self : goal.invariant_of-self
+invariant_of-self c =
     let (S, w, H) = c.requires.taken in
     let x = c.args.self.now in
     let G =

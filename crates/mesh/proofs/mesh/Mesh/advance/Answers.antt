@@ -9,8 +9,8 @@ join-requires c =
       closed = meshes.join_closed c.args.self.now c.args.e c.requires.ahead c.requires.live c.requires.same;
     }
 
-pub invariant-of-self : goal.invariant-of-self
-invariant-of-self c =
+pub invariant_of-self : goal.invariant_of-self
+invariant_of-self c =
     let m = c.args.self.now in
     let long = c.join.ensures.joined.corners_long ∙ m.corners_long in
     let many = c.join.ensures.joined.vertices_long ∙ m.vertices_long in

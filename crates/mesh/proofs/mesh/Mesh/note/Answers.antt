@@ -10,8 +10,8 @@ push-reserved-requires c =
     let s = c.args.self.now.placed in
     omega arith
 
-pub invariant-of-self : goal.invariant-of-self
-invariant-of-self c =
+pub invariant_of-self : goal.invariant_of-self
+invariant_of-self c =
     let m = c.args.self.now in
     let r = c.args.r in
     let n = c.push-reserved.new.self in

@@ -15,8 +15,8 @@ part-requires c =
       );
     }
 
-pub invariant-of-self : goal.invariant-of-self
-invariant-of-self c =
+pub invariant_of-self : goal.invariant_of-self
+invariant_of-self c =
     let m = c.args.self.now in
     let J = meshes.parted m c.if-self-eq0.false c.index-r.result.now c.index-r.ensures c.part.new.self c.part.ensures.parted in
     let t = meshes.twins_back m c.if-self-eq0.false c.index-r.result.now c.index-r.ensures c.part.new.self c.part.ensures.parted in

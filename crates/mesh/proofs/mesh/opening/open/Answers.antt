@@ -5,8 +5,8 @@ use Rattle.judging.proofs.Floods.{carried}
 use Rattle.mesh.proofs.Openings.{Begun, begun}
 use Rattle.mesh.proofs.mesh.opening.open.Goals as goal
 
-pub invariant-of-mesh : goal.invariant-of-mesh
-invariant-of-mesh c =
+pub invariant_of-mesh : goal.invariant_of-mesh
+invariant_of-mesh c =
     let g = c.args.gathering in
     let e = c.in-Ok.field-0.edges in
     let l = c.in-Ok.field-0.log in
