@@ -10,13 +10,13 @@ loop-v-init c =
     let cs = c.args.corners.now in
     let n = length c.args.last.now in
     let P : List Bool → List ℕ → Type 0 = λ s q. Found cs n 0 0 s × Settled cs s × Level n s q in
-    let (F, Z, L) = carried {a = replicate n false} P (c.in-ok-seen.ensures.items-if-clones-equal (λ y e. e)) c.in-ok-queue.ensures.items (found_none cs n, settled_none cs n, level_none n) in
-    (F, Z, L, c.in-ok-queue.ensures.capacity)
+    let (F, Z, L) = carried {a = replicate n false} P (c.in_ok-seen.ensures.items_if_clones_equal (λ y e. e)) c.in_ok-queue.ensures.items (found_none cs n, settled_none cs n, level_none n) in
+    (F, Z, L, c.in_ok-queue.ensures.capacity)
 
 pub flood-requires : goal.flood-requires
 flood-requires c =
     let (F, Z, L, room) = c.loop-v.invariant in
-    let e = c.deref-mut.ensures.value in
+    let e = c.deref_mut.ensures.value in
     let l : c.loop-v.v < length (vec_items c.loop-v.seen) = omega (arith, L.flags, c.loop-v-test.true) in
     record {
       known = c.loop-v-test.true;
@@ -31,8 +31,8 @@ flood-requires c =
       settled = subst (λ (s : List Bool). Settled c.args.corners.now s) (sym e) Z;
     }
 
-pub overflow-add-pieces : goal.overflow-add-pieces
-overflow-add-pieces c = omega (arith, c.loop-v.invariant.0.few, c.requires.few_vertices, c.loop-v-test.true)
+pub overflow_add-pieces : goal.overflow_add-pieces
+overflow_add-pieces c = omega (arith, c.loop-v.invariant.0.few, c.requires.few_vertices, c.loop-v-test.true)
 
 pub loop-v-preserved : goal.loop-v-preserved
 loop-v-preserved c =
@@ -46,7 +46,7 @@ loop-v-preserved c =
       | then-not-index w ↦
           let s = w.flood.new.seen in
           let E = w.flood.ensures in
-          let D = subst (λ (o : List Bool). Flooded cs n c.loop-v.v o s) w.deref-mut.ensures.value E.flooded in
+          let D = subst (λ (o : List Bool). Flooded cs n c.loop-v.v o s) w.deref_mut.ensures.value E.flooded in
           let G = subst (λ (k : ℕ). Found cs n (c.loop-v.v + 1) k s) (sym w.pieces-is) (found_more cs n c.requires.threes c.loop-v-test.true F Z (sym r ∙ w.if-not-index.true) D) in
           let e : vec_items c.if-not-index.seen ≡ s = ap vec_items w.seen-is ∙ with_items_is c.loop-v.seen s (omega (arith, E.level.flags, L.flags, c.loop-v.seen.ok.0)) in
           let (F', Z', L') = carried P e (ap vec_items w.queue-is) (G, E.settled, E.level) in

@@ -4,8 +4,8 @@ use Rattle.judging.specs.Floods.{Level, Flooding}
 use Rattle.judging.proofs.Floods.{flooding_none, flooding_more, flooding_settled, flooding_all, level_most, level_room, level_more}
 use Rattle.judging.proofs.judge.pieces.flood.Goals as goal
 
-pub push-reserved-requires : goal.push-reserved-requires
-push-reserved-requires c =
+pub push_reserved-requires : goal.push_reserved-requires
+push_reserved-requires c =
     let k = level_room c.requires.level _ c.requires.known c.requires.unseen in
     omega (arith, c.requires.room, c.args.queue.now.ok.0)
 
@@ -17,8 +17,8 @@ loop-at-init c =
     let q = vec_items c.args.queue.now in
     let start = c.len-at.result in
     let P : List ℕ → Type 0 = λ q. Flooding c.args.corners.now n v start start (set s v true) (set s v true) q × Level n (set s v true) q in
-    let (F, L) = subst P (sym c.push-reserved.ensures.items) (flooding_none s q (c.len-at.ensures ∙ c.args.queue.now.ok.0) (omega (arith, c.requires.level.flags)) c.requires.settled, level_more c.requires.level v c.requires.known c.requires.unseen) in
-    (F, L, omega (arith, c.requires.room, c.push-reserved.ensures.capacity))
+    let (F, L) = subst P (sym c.push_reserved.ensures.items) (flooding_none s q (c.len-at.ensures ∙ c.args.queue.now.ok.0) (omega (arith, c.requires.level.flags)) c.requires.settled, level_more c.requires.level v c.requires.known c.requires.unseen) in
+    (F, L, omega (arith, c.requires.room, c.push_reserved.ensures.capacity))
 
 pub spread-requires : goal.spread-requires
 spread-requires c =

@@ -7,8 +7,8 @@ use Rattle.judging.proofs.judge.pieces.spread.Goals.{then-not-seen-y, else-not-s
 pub loop-at-init : goal.loop-at-init
 loop-at-init c = (grown_none _ _, walked_none c.requires.chained c.requires.known _, c.requires.level, c.requires.room)
 
-pub offset-bounds-corners-following : goal.offset-bounds-corners-following
-offset-bounds-corners-following c =
+pub offset_bounds-corners-following : goal.offset_bounds-corners-following
+offset_bounds-corners-following c =
     let (l, _, _) = walked_at c.requires.threes c.requires.numbered c.loop-at.invariant.1 c.in-Some.is c.following.ensures.value in
     omega (arith, c.requires.few_corners)
 
@@ -25,8 +25,8 @@ bounds-seen-y-then-not-seen-y c =
     let (_, l, _) = walked_at c.requires.threes c.requires.numbered c.loop-at.invariant.1 c.in-Some.is c.following.ensures.value in
     omega (arith, c.loop-at.invariant.2.flags)
 
-pub push-reserved-requires : goal.push-reserved-requires
-push-reserved-requires c =
+pub push_reserved-requires : goal.push_reserved-requires
+push_reserved-requires c =
     let (_, l, _) = walked_at c.requires.threes c.requires.numbered c.loop-at.invariant.1 c.in-Some.is c.following.ensures.value in
     let k = level_room c.loop-at.invariant.2 _ l c.if-not-seen-y.true in
     omega (arith, c.loop-at.invariant.3, c.loop-at.queue.ok.0)
@@ -41,8 +41,8 @@ loop-at-preserved c =
       | then-not-seen-y w ↦
           let k : get_or cs c.following.result 0 < length c.loop-at.seen = omega (arith, L.flags) in
           let W' = walked_unseen c.requires.chained W c.in-Some.is c.following.ensures.value k in
-          let (g, v, e) = carried P w.seen-is (ap vec_items w.queue-is ∙ w.push-reserved.ensures.items) (grown_more G _ k d, W', level_more L _ l w.if-not-seen-y.true) in
-          (g, v, e, omega (arith, ap vec_capacity w.queue-is, w.push-reserved.ensures.capacity))
+          let (g, v, e) = carried P w.seen-is (ap vec_items w.queue-is ∙ w.push_reserved.ensures.items) (grown_more G _ k d, W', level_more L _ l w.if-not-seen-y.true) in
+          (g, v, e, omega (arith, ap vec_capacity w.queue-is, w.push_reserved.ensures.capacity))
       | else-not-seen-y w ↦
           let W' = walked_seen c.requires.chained W c.in-Some.is c.following.ensures.value w.if-not-seen-y.false in
           let (g, v, e) = carried P w.seen-is (ap vec_items w.queue-is) (G, W', L) in
@@ -53,7 +53,7 @@ pub returns : goal.returns
 returns c =
     record {
       grown = c.loop-at.invariant.0;
-      spread = walked_all c.loop-at.invariant.1 c.in-default.is;
+      spread = walked_all c.loop-at.invariant.1 c.in_default.is;
       level = c.loop-at.invariant.2;
       room = c.loop-at.invariant.3;
     }

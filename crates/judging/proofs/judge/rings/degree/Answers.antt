@@ -5,8 +5,8 @@ use Rattle.judging.proofs.judge.rings.degree.Goals as goal
 pub loop-at-init : goal.loop-at-init
 loop-at-init c = counting_start c.args.corners.now c.args.v c.requires.chained c.requires.vertex
 
-pub overflow-add-many : goal.overflow-add-many
-overflow-add-many c = omega (arith, degree_most c.args.corners.now c.args.v)
+pub overflow_add-many : goal.overflow_add-many
+overflow_add-many c = omega (arith, degree_most c.args.corners.now c.args.v)
 
 pub loop-at-preserved : goal.loop-at-preserved
 loop-at-preserved c =
@@ -18,5 +18,5 @@ returns c =
     record {
       value =
           counting_end c.args.corners.now c.args.v c.loop-at.many
-          (subst (λ (r : Option ℕ). Counting c.args.corners.now c.args.v c.loop-at.many r) c.in-default.is c.loop-at.invariant);
+          (subst (λ (r : Option ℕ). Counting c.args.corners.now c.args.v c.loop-at.many r) c.in_default.is c.loop-at.invariant);
     }

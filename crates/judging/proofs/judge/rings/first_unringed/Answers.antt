@@ -3,14 +3,14 @@ use Rattle.judging.proofs.Whole.{whole_present, present_below}
 use Rattle.judging.proofs.judge.rings.first_unringed.Goals as goal
 
 pub loop-v-preserved : goal.loop-v-preserved
-loop-v-preserved c = below_more _ _ c.loop-v.invariant (c.is-ringed.ensures.yes c.if-not-is-ringed.false)
+loop-v-preserved c = below_more _ _ c.loop-v.invariant (c.is_ringed.ensures.yes c.if-not-is_ringed.false)
 
-pub returns-then-not-is-ringed : goal.returns-then-not-is-ringed
-returns-then-not-is-ringed c =
+pub returns-then-not-is_ringed : goal.returns-then-not-is_ringed
+returns-then-not-is_ringed c =
     record {
       lowest =
           record {
-            here = (whole_present c.args.corners.now (length c.args.last.now) c.loop-v.v c.loop-v-test.true, c.is-ringed.ensures.no c.if-not-is-ringed.true);
+            here = (whole_present c.args.corners.now (length c.args.last.now) c.loop-v.v c.loop-v-test.true, c.is_ringed.ensures.no c.if-not-is_ringed.true);
             below = λ u l (_, n). n (c.loop-v.invariant u l);
           };
     }

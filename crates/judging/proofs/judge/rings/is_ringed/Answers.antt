@@ -4,13 +4,13 @@ use Rattle.judging.specs.Rings.{Around}
 use Rattle.judging.proofs.Rings.{turning, ring_from, ring_around, no_ring, starts, starts_nowhere}
 use Rattle.judging.proofs.judge.rings.is_ringed.Goals as goal
 
-pub returns-in-default : goal.returns-in-default
-returns-in-default c =
+pub returns-in_default : goal.returns-in_default
+returns-in_default c =
     record {
       yes = λ e. absurd (false≢true e);
       no = λ _ R.
           no_ring c.args.corners.now (length c.args.last.now) c.args.twin.now c.requires.threes c.requires.twins c.requires.matched c.requires.single c.args.v
-          (starts_nowhere c.requires.chained c.args.v c.requires.vertex c.in-default.is) R;
+          (starts_nowhere c.requires.chained c.args.v c.requires.vertex c.in_default.is) R;
     }
 
 pub returns-then-around-lt3 : goal.returns-then-around-lt3
@@ -23,12 +23,12 @@ returns-then-around-lt3 c =
           omega (arith, c.degree-around.ensures.value);
     }
 
-pub comes-round-requires : goal.comes-round-requires
-comes-round-requires c =
+pub comes_round-requires : goal.comes_round-requires
+comes_round-requires c =
     record {
       few = omega arith;
-      threes = subst (λ (k : ℕ). k % 3 ≡ 0) (sym c.requires.twin-room) c.requires.threes;
-      turning = turning c.args.corners.now (length c.args.last.now) c.args.twin.now c.requires.threes c.requires.twins c.requires.matched c.requires.twin-room;
+      threes = subst (λ (k : ℕ). k % 3 ≡ 0) (sym c.requires.twin_room) c.requires.threes;
+      turning = turning c.args.corners.now (length c.args.last.now) c.args.twin.now c.requires.threes c.requires.twins c.requires.matched c.requires.twin_room;
       inside = omega (arith, (starts c.requires.chained c.args.v c.requires.vertex c.in-Some.start c.in-Some.is).0);
       some = omega arith;
     }
@@ -40,8 +40,8 @@ returns c =
       yes = λ t.
           ring_from c.args.corners.now (length c.args.last.now) c.args.twin.now c.requires.threes c.requires.twins c.requires.matched c.requires.single c.args.v c.in-Some.start low at
           (omega (arith, c.degree-around.ensures.value))
-          (subst (λ (k : ℕ). Around c.args.twin.now c.in-Some.start k) c.degree-around.ensures.value (c.comes-round.ensures.yes t));
+          (subst (λ (k : ℕ). Around c.args.twin.now c.in-Some.start k) c.degree-around.ensures.value (c.comes_round.ensures.yes t));
       no = λ t R.
           let (_, A) = ring_around c.args.corners.now (length c.args.last.now) c.args.twin.now c.requires.threes c.requires.twins c.requires.matched c.requires.single c.args.v c.in-Some.start low at R in
-          c.comes-round.ensures.no t (subst (λ (k : ℕ). Around c.args.twin.now c.in-Some.start k) (sym c.degree-around.ensures.value) A);
+          c.comes_round.ensures.no t (subst (λ (k : ℕ). Around c.args.twin.now c.in-Some.start k) (sym c.degree-around.ensures.value) A);
     }

@@ -13,8 +13,8 @@ before c = omega (arith, before_is c, prev_inside (length c.args.twin.now) c.arg
 pub following-before-requires : goal.following-before-requires
 following-before-requires c = record { small = omega (arith, next_inside (length c.args.twin.now) c.args.h c.requires.threes c.requires.inside) }
 
-pub offset-bounds-twin-before : goal.offset-bounds-twin-before
-offset-bounds-twin-before c = omega (arith, before c)
+pub offset_bounds-twin-before : goal.offset_bounds-twin-before
+offset_bounds-twin-before c = omega (arith, before c)
 
 pub bounds-twin-before : goal.bounds-twin-before
 bounds-twin-before c = before c

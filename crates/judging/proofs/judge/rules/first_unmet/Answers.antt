@@ -14,14 +14,14 @@ none_from (Some g) e = absurd (true≢false e)
 pub loop-h-preserved : goal.loop-h-preserved
 loop-h-preserved c =
     below_more (λ (k : ℕ). (g : ℕ) × (get_or c.args.twin.now k None ≡ Some g)) c.loop-h.h c.loop-h.invariant
-    (some_from (get_or c.args.twin.now c.loop-h.h None) (c.is-none.ensures ∙ ap not c.if-is-none.false))
+    (some_from (get_or c.args.twin.now c.loop-h.h None) (c.is_none.ensures ∙ ap not c.if-is_none.false))
 
-pub returns-then-is-none : goal.returns-then-is-none
-returns-then-is-none c =
+pub returns-then-is_none : goal.returns-then-is_none
+returns-then-is_none c =
     record {
       lowest = λ n.
           unmet_some c.requires.paired c.requires.threes n c.loop-h.h c.loop-h-test.true
-          (none_from (get_or c.args.twin.now c.loop-h.h None) (c.is-none.ensures ∙ ap not c.if-is-none.true)) c.loop-h.invariant;
+          (none_from (get_or c.args.twin.now c.loop-h.h None) (c.is_none.ensures ∙ ap not c.if-is_none.true)) c.loop-h.invariant;
     }
 
 pub returns : goal.returns

@@ -6,8 +6,8 @@ use Rattle.judging.proofs.judge.sides.mark_ends.Goals as goal
 pub loop-at-init : goal.loop-at-init
 loop-at-init c = marking_start c.requires.chained c.args.u c.args.marks.now c.requires.vertex c.requires.below
 
-pub offset-bounds-corners-following : goal.offset-bounds-corners-following
-offset-bounds-corners-following c = let p = inside_next c.args.corners.now c.args.u c.loop-at.invariant.stands c.in-Some.is c.following.result c.requires.threes c.following.ensures.value in omega arith
+pub offset_bounds-corners-following : goal.offset_bounds-corners-following
+offset_bounds-corners-following c = let p = inside_next c.args.corners.now c.args.u c.loop-at.invariant.stands c.in-Some.is c.following.result c.requires.threes c.following.ensures.value in omega arith
 
 pub bounds-corners-following : goal.bounds-corners-following
 bounds-corners-following c = inside_next c.args.corners.now c.args.u c.loop-at.invariant.stands c.in-Some.is c.following.result c.requires.threes c.following.ensures.value

@@ -15,8 +15,8 @@ following-before-requires c =
     let p = inside_next c.args.corners.now c.args.u c.loop-at.invariant.0 c.in-Some.is c.following-after.result c.requires.threes c.following-after.ensures.value in
     record { small = omega arith }
 
-pub offset-bounds-corners-after : goal.offset-bounds-corners-after
-offset-bounds-corners-after c = let p = inside_next c.args.corners.now c.args.u c.loop-at.invariant.0 c.in-Some.is c.following-after.result c.requires.threes c.following-after.ensures.value in omega arith
+pub offset_bounds-corners-after : goal.offset_bounds-corners-after
+offset_bounds-corners-after c = let p = inside_next c.args.corners.now c.args.u c.loop-at.invariant.0 c.in-Some.is c.following-after.result c.requires.threes c.following-after.ensures.value in omega arith
 
 pub bounds-corners-after : goal.bounds-corners-after
 bounds-corners-after c = inside_next c.args.corners.now c.args.u c.loop-at.invariant.0 c.in-Some.is c.following-after.result c.requires.threes c.following-after.ensures.value
@@ -26,8 +26,8 @@ marked-requires c =
     let p = c.requires.numbered c.following-after.result (inside_next c.args.corners.now c.args.u c.loop-at.invariant.0 c.in-Some.is c.following-after.result c.requires.threes c.following-after.ensures.value) in
     record { ready = c.requires.ready; vertex = omega arith }
 
-pub offset-bounds-corners-before : goal.offset-bounds-corners-before
-offset-bounds-corners-before c =
+pub offset_bounds-corners-before : goal.offset_bounds-corners-before
+offset_bounds-corners-before c =
     let p = inside_next c.args.corners.now c.args.u c.loop-at.invariant.0 c.in-Some.is c.following-after.result c.requires.threes c.following-after.ensures.value in
     let q = next_inside (length c.args.corners.now) c.following-after.result c.requires.threes p in
     omega arith
@@ -45,8 +45,8 @@ marked-requires-in-Some c =
     let r = c.requires.numbered c.following-before.result (omega arith) in
     record { ready = c.requires.ready; vertex = omega arith }
 
-pub offset-bounds-twin-before : goal.offset-bounds-twin-before
-offset-bounds-twin-before c =
+pub offset_bounds-twin-before : goal.offset_bounds-twin-before
+offset_bounds-twin-before c =
     let p = inside_next c.args.corners.now c.args.u c.loop-at.invariant.0 c.in-Some.is c.following-after.result c.requires.threes c.following-after.ensures.value in
     let q = next_inside (length c.args.corners.now) c.following-after.result c.requires.threes p in
     omega arith
@@ -76,5 +76,5 @@ loop-at-preserved c =
 pub returns : goal.returns
 returns c =
     let cs = c.args.corners.now in
-    let F = subst (λ (r : Option ℕ). Found cs (Passed cs c.args.u r) c.loop-at.first c.loop-at.twin) c.in-default.is c.loop-at.invariant.1 in
+    let F = subst (λ (r : Option ℕ). Found cs (Passed cs c.args.u r) c.loop-at.first c.loop-at.twin) c.in_default.is c.loop-at.invariant.1 in
     record { found = found_end c.requires.chained c.args.u F }

@@ -5,7 +5,7 @@ use Rattle.judging.proofs.Found.{found_none, found_all}
 use Rattle.judging.proofs.judge.sides.pair_sides.Goals as goal
 
 pub loop-u-init : goal.loop-u-init
-loop-u-init c = (marks_none c.args.corners.now c.args.marks.now c.requires.unmarked, found_none c.args.corners.now c.args.first.now c.args.twin.now c.requires.first-room c.requires.twin-room)
+loop-u-init c = (marks_none c.args.corners.now c.args.marks.now c.requires.unmarked, found_none c.args.corners.now c.args.first.now c.args.twin.now c.requires.first_room c.requires.twin_room)
 
 pub returns : goal.returns
 returns c =
