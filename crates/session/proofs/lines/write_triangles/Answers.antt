@@ -3,4 +3,4 @@ use Rattle.session.proofs.Written.{more_triangles}
 use Rattle.session.proofs.lines.write_triangles.Goals as goal
 
 pub loop-t-preserved : goal.loop-t-preserved
-loop-t-preserved c = more_triangles (vec_items c.args.out.now) (vec_items c.loop-t.out) _ c.args.corners.now c.loop-t.t c.loop-t.invariant c.in-ok-write-triangle.ensures.written
+loop-t-preserved c = more_triangles (vec_items c.args.out.now) (vec_items c.loop-t.out) _ c.args.corners.now c.loop-t.t c.loop-t.invariant c.in_ok-write_triangle.ensures.written

@@ -12,8 +12,8 @@ loop-u-preserved c =
 pub loop-u-smaller : goal.loop-u-smaller
 loop-u-smaller c = closer c.args.self.now c.in-Some.ensures.begins.2 c.loop-u.invariant c.around-h.ensures.turns c.if-h-first.false
 
-pub returns-in-default : goal.returns-in-default
-returns-in-default c = record { leads = λ (h, x, t). c.in-default.ensures.begins ((closed_held c.args.self.now).known _ _ _ _ t) }
+pub returns-in_default : goal.returns-in_default
+returns-in_default c = record { leads = λ (h, x, t). c.in_default.ensures.begins ((closed_held c.args.self.now).known _ _ _ _ t) }
 
 pub returns-then-h-first : goal.returns-then-h-first
 returns-then-h-first c =

@@ -3,8 +3,8 @@ use Rattle.mesh.proofs.Round.{closed_held}
 use Rattle.mesh.proofs.LinkTest.{exactly_from, three_from, three_back}
 use Rattle.mesh.proofs.halfedges.HalfEdges.has_three.Goals as goal
 
-pub returns-in-default : goal.returns-in-default
-returns-in-default c = record { three = λ (x, y, z, T). let (h, n, t) = T.first in c.in-default.ensures.begins ((closed_held c.args.self.now).known _ _ _ _ t) }
+pub returns-in_default : goal.returns-in_default
+returns-in_default c = record { three = λ (x, y, z, T). let (h, n, t) = T.first in c.in_default.ensures.begins ((closed_held c.args.self.now).known _ _ _ _ t) }
 
 pub returns : goal.returns
 returns c =

@@ -18,7 +18,7 @@ mend-requires c =
       long = ap length c.deref.ensures.value ∙ sym (joins.twin_long c.args.self.now) ∙ sym (ap length c.deref-2.ensures.value);
       cornered =
           joins.cornered_at c.args.self.now c.args.e c.requires.live c.index-f.result.now c.index-f.ensures
-          c.deref.result.now c.deref-mut.result.now c.deref.ensures.value c.deref-mut.ensures.value;
+          c.deref.result.now c.deref_mut.result.now c.deref.ensures.value c.deref_mut.ensures.value;
     }
 
 pub turn-requires : goal.turn-requires
@@ -27,27 +27,27 @@ turn-requires c =
       beside = joins.beside_at c.args.self.now c.args.e c.requires.live c.index-f.result.now c.index-f.ensures c.deref-3.result.now c.deref-3.ensures.value;
       ready =
           joins.walkable_at c.args.self.now c.args.e c.requires.live c.index-f.result.now c.index-f.ensures
-          c.deref-mut-2.result.now c.deref-3.result.now c.index-w.result.now c.deref-mut-2.ensures.value c.deref-3.ensures.value c.index-w.ensures;
+          c.deref_mut-2.result.now c.deref-3.result.now c.index-w.result.now c.deref_mut-2.ensures.value c.deref-3.ensures.value c.index-w.ensures;
     }
 
 pub cross-requires : goal.cross-requires
 cross-requires c =
     record {
       beside =
-          joins.beside_at c.args.self.now c.args.e c.requires.live c.index-f.result.now c.index-f.ensures c.deref-mut-3.result.now c.deref-mut-3.ensures.value;
+          joins.beside_at c.args.self.now c.args.e c.requires.live c.index-f.result.now c.index-f.ensures c.deref_mut-3.result.now c.deref_mut-3.ensures.value;
     }
 
 pub mark-requires : goal.mark-requires
 mark-requires c =
     record {
       first =
-          joins.e_triangle c.args.self.now c.args.e c.requires.live c.index-f.result.now c.index-f.ensures c.deref-mut-4.result.now c.deref-mut-4.ensures.value;
+          joins.e_triangle c.args.self.now c.args.e c.requires.live c.index-f.result.now c.index-f.ensures c.deref_mut-4.result.now c.deref_mut-4.ensures.value;
       second =
-          joins.f_triangle c.args.self.now c.args.e c.requires.live c.index-f.result.now c.index-f.ensures c.deref-mut-4.result.now c.deref-mut-4.ensures.value;
+          joins.f_triangle c.args.self.now c.args.e c.requires.live c.index-f.result.now c.index-f.ensures c.deref_mut-4.result.now c.deref_mut-4.ensures.value;
     }
 
-pub index-mut-requires : goal.index-mut-requires
-index-mut-requires c =
+pub index_mut-requires : goal.index_mut-requires
+index_mut-requires c =
     joins.u_low c.args.self.now c.args.e c.requires.live c.index-f.result.now c.index-f.ensures c.index-u.result.now c.index-u.ensures
 
 pub invariant_of-self : goal.invariant_of-self
@@ -56,14 +56,14 @@ invariant_of-self c =
     let H =
     joins.steps x c.args.e c.requires.live c.index-f.result.now c.index-u.result.now c.index-w.result.now
     c.index-f.ensures c.index-u.ensures c.index-w.ensures
-    c.deref-mut.result.now c.deref.result.now c.deref-2.result.now c.deref-mut-2.result.now c.deref-3.result.now c.deref-mut-3.result.now c.deref-mut-4.result.now
-    c.deref-mut.ensures.value c.deref.ensures.value c.deref-2.ensures.value c.deref-mut-2.ensures.value c.deref-3.ensures.value c.deref-mut-3.ensures.value
-    c.deref-mut-4.ensures.value c.mend.new.out c.turn.new.corners c.cross.new.twin c.mark.new.triangles c.mend.ensures.value
+    c.deref_mut.result.now c.deref.result.now c.deref-2.result.now c.deref_mut-2.result.now c.deref-3.result.now c.deref_mut-3.result.now c.deref_mut-4.result.now
+    c.deref_mut.ensures.value c.deref.ensures.value c.deref-2.ensures.value c.deref_mut-2.ensures.value c.deref-3.ensures.value c.deref_mut-3.ensures.value
+    c.deref_mut-4.ensures.value c.mend.new.out c.turn.new.corners c.cross.new.twin c.mark.new.triangles c.mend.ensures.value
     c.turn.ensures.moved c.turn.auto.corners c.cross.ensures.value c.mark.ensures.value in
     let closed = joins.closed_now x c.args.e c.requires.live H c.requires.closed in
     let twins = joins.twins_now x c.args.e c.requires.live H in
     let outs = joins.outs_now x c.args.e c.requires.live H in
-    (x.few, (x.threes, (x.twin_long, (x.few_vertices, (x.out_long, (closed, (twins, (outs, tt))))))))
+    record { few = x.few; threes = x.threes; twin_long = x.twin_long; few_vertices = x.few_vertices; out_long = x.out_long; closed = closed; twins = twins; outs = outs }
 
 pub returns : goal.returns
 returns c =
@@ -71,9 +71,9 @@ returns c =
     let H =
     joins.steps x c.args.e c.requires.live c.index-f.result.now c.index-u.result.now c.index-w.result.now
     c.index-f.ensures c.index-u.ensures c.index-w.ensures
-    c.deref-mut.result.now c.deref.result.now c.deref-2.result.now c.deref-mut-2.result.now c.deref-3.result.now c.deref-mut-3.result.now c.deref-mut-4.result.now
-    c.deref-mut.ensures.value c.deref.ensures.value c.deref-2.ensures.value c.deref-mut-2.ensures.value c.deref-3.ensures.value c.deref-mut-3.ensures.value
-    c.deref-mut-4.ensures.value c.mend.new.out c.turn.new.corners c.cross.new.twin c.mark.new.triangles c.mend.ensures.value
+    c.deref_mut.result.now c.deref.result.now c.deref-2.result.now c.deref_mut-2.result.now c.deref-3.result.now c.deref_mut-3.result.now c.deref_mut-4.result.now
+    c.deref_mut.ensures.value c.deref.ensures.value c.deref-2.ensures.value c.deref_mut-2.ensures.value c.deref-3.ensures.value c.deref_mut-3.ensures.value
+    c.deref_mut-4.ensures.value c.mend.new.out c.turn.new.corners c.cross.new.twin c.mark.new.triangles c.mend.ensures.value
     c.turn.ensures.moved c.turn.auto.corners c.cross.ensures.value c.mark.ensures.value in
     record {
       joined =

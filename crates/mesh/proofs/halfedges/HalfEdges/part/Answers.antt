@@ -24,31 +24,31 @@ turn-requires c =
       beside = parts.beside_at c.args.self.now S c.args.u w H c.index-e.result.now c.index-e.ensures c.index-f.result.now c.index-f.ensures c.deref.result.now c.deref.ensures.value;
       ready =
           parts.walkable_at c.args.self.now S c.args.u w H c.index-e.result.now c.index-e.ensures c.index-f.result.now c.index-f.ensures
-          c.deref-mut.result.now c.deref.result.now c.deref-mut.ensures.value c.deref.ensures.value;
+          c.deref_mut.result.now c.deref.result.now c.deref_mut.ensures.value c.deref.ensures.value;
     }
 
 pub uncross-requires : goal.uncross-requires
 uncross-requires c =
     let (S, w, H) = c.requires.taken in
     record {
-      beside = parts.beside_at c.args.self.now S c.args.u w H c.index-e.result.now c.index-e.ensures c.index-f.result.now c.index-f.ensures c.deref-mut-2.result.now c.deref-mut-2.ensures.value;
+      beside = parts.beside_at c.args.self.now S c.args.u w H c.index-e.result.now c.index-e.ensures c.index-f.result.now c.index-f.ensures c.deref_mut-2.result.now c.deref_mut-2.ensures.value;
     }
 
 pub mark-requires : goal.mark-requires
 mark-requires c =
     let (S, w, H) = c.requires.taken in
     record {
-      first = parts.e_triangle c.args.self.now S c.args.u w H c.index-e.result.now c.index-e.ensures c.index-f.result.now c.index-f.ensures c.deref-mut-3.result.now c.deref-mut-3.ensures.value;
-      second = parts.f_triangle c.args.self.now S c.args.u w H c.index-e.result.now c.index-e.ensures c.index-f.result.now c.index-f.ensures c.deref-mut-3.result.now c.deref-mut-3.ensures.value;
+      first = parts.e_triangle c.args.self.now S c.args.u w H c.index-e.result.now c.index-e.ensures c.index-f.result.now c.index-f.ensures c.deref_mut-3.result.now c.deref_mut-3.ensures.value;
+      second = parts.f_triangle c.args.self.now S c.args.u w H c.index-e.result.now c.index-e.ensures c.index-f.result.now c.index-f.ensures c.deref_mut-3.result.now c.deref_mut-3.ensures.value;
     }
 
-pub index-mut-requires : goal.index-mut-requires
-index-mut-requires c =
+pub index_mut-requires : goal.index_mut-requires
+index_mut-requires c =
     let (S, w, H) = c.requires.taken in
     parts.u_vertex c.args.self.now S c.args.u w H
 
-pub index-mut-requires-2 : goal.index-mut-requires-2
-index-mut-requires-2 c =
+pub index_mut-requires-2 : goal.index_mut-requires-2
+index_mut-requires-2 c =
     let (S, w, H) = c.requires.taken in
     parts.v_out c.args.self.now S c.args.u w H c.index-e.result.now c.index-e.ensures c.index-f.result.now c.index-f.ensures c.index-w.result.now c.index-w.ensures
 
@@ -58,22 +58,22 @@ invariant_of-self c =
     let x = c.args.self.now in
     let G =
     parts.steps x c.args.u c.index-e.result.now c.index-f.result.now c.index-w.result.now c.index-e.ensures c.index-f.ensures c.index-w.ensures
-    c.deref-mut.result.now c.deref.result.now c.deref-mut-2.result.now c.deref-mut-3.result.now
-    c.deref-mut.ensures.value c.deref.ensures.value c.deref-mut-2.ensures.value c.deref-mut-3.ensures.value
+    c.deref_mut.result.now c.deref.result.now c.deref_mut-2.result.now c.deref_mut-3.result.now
+    c.deref_mut.ensures.value c.deref.ensures.value c.deref_mut-2.ensures.value c.deref_mut-3.ensures.value
     c.turn.new.corners c.uncross.new.twin c.mark.new.triangles
     c.turn.ensures.moved c.turn.auto.corners c.uncross.ensures.value c.mark.ensures.value in
     let closed = parts.closed_now c.args.self.now S c.args.u w H G in
     let twins = parts.twins_now c.args.self.now S c.args.u w H G in
     let outs = parts.outs_now c.args.self.now S c.args.u w H G in
-    (x.few, (x.threes, (x.twin_long, (x.few_vertices, (x.out_long, (closed, (twins, (outs, tt))))))))
+    record { few = x.few; threes = x.threes; twin_long = x.twin_long; few_vertices = x.few_vertices; out_long = x.out_long; closed = closed; twins = twins; outs = outs }
 
 pub returns : goal.returns
 returns c =
     let x = c.args.self.now in
     let G =
     parts.steps x c.args.u c.index-e.result.now c.index-f.result.now c.index-w.result.now c.index-e.ensures c.index-f.ensures c.index-w.ensures
-    c.deref-mut.result.now c.deref.result.now c.deref-mut-2.result.now c.deref-mut-3.result.now
-    c.deref-mut.ensures.value c.deref.ensures.value c.deref-mut-2.ensures.value c.deref-mut-3.ensures.value
+    c.deref_mut.result.now c.deref.result.now c.deref_mut-2.result.now c.deref_mut-3.result.now
+    c.deref_mut.ensures.value c.deref.ensures.value c.deref_mut-2.ensures.value c.deref_mut-3.ensures.value
     c.turn.new.corners c.uncross.new.twin c.mark.new.triangles
     c.turn.ensures.moved c.turn.auto.corners c.uncross.ensures.value c.mark.ensures.value in
     record {

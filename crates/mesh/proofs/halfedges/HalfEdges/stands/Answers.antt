@@ -33,5 +33,5 @@ returns c =
     record {
       stands =
           stands_told (held c.args.self.now) (point_of c.args.positions.now) c.args.h i j k c.from-4.ensures (λ e. c.if-b-w.false (sym c.from.ensures ∙ e)) (λ e. c.if-c-w.false (sym c.from-2.ensures ∙ e))
-          c.fold-free.result c.fold-free.ensures.above;
+          c.fold_free.result c.fold_free.ensures.above;
     }

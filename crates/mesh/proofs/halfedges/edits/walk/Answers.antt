@@ -5,11 +5,11 @@ use Rattle.mesh.proofs.halfedges.edits.walk.Goals as goal
 pub loop-h-init : goal.loop-h-init
 loop-h-init c = start c.requires.ready
 
-pub overflow-cast-corners : goal.overflow-cast-corners
-overflow-cast-corners c = omega (arith, inside c.requires.ready c.loop-h.invariant c.loop-h.auto.corners, c.requires.ready.few)
+pub overflow_cast-corners : goal.overflow_cast-corners
+overflow_cast-corners c = omega (arith, inside c.requires.ready c.loop-h.invariant c.loop-h.auto.corners, c.requires.ready.few)
 
-pub offset-bounds-corners-h : goal.offset-bounds-corners-h
-offset-bounds-corners-h c = omega (arith, inside c.requires.ready c.loop-h.invariant c.loop-h.auto.corners, c.requires.ready.few)
+pub offset_bounds-corners-h : goal.offset_bounds-corners-h
+offset_bounds-corners-h c = omega (arith, inside c.requires.ready c.loop-h.invariant c.loop-h.auto.corners, c.requires.ready.few)
 
 pub bounds-corners-h : goal.bounds-corners-h
 bounds-corners-h c = omega (arith, inside c.requires.ready c.loop-h.invariant c.loop-h.auto.corners)

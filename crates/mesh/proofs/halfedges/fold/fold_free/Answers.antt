@@ -7,6 +7,6 @@ use Rattle.mesh.proofs.halfedges.fold.fold_free.Goals as goal
 pub returns : goal.returns
 returns c =
     let n = normal (vector_of c.args.from) (vector_of c.args.q) (vector_of c.args.r) in
-    let is : c.scalar-product.result ≡ dot n _ =
-    c.scalar-product.ensures.value ∙ ap (λ v. dot v (value_of c.normal-of-2.result)) c.normal-of.ensures.value ∙ ap (dot n) c.normal-of-2.ensures.value in
-    record { above = sign_told _ _ is c.scalar-product.ensures.bound }
+    let is : c.scalar_product.result ≡ dot n _ =
+    c.scalar_product.ensures.value ∙ ap (λ v. dot v (value_of c.normal_of-2.result)) c.normal_of.ensures.value ∙ ap (dot n) c.normal_of-2.ensures.value in
+    record { above = sign_told _ _ is c.scalar_product.ensures.bound }

@@ -3,8 +3,8 @@ use Rattle.std.proofs.lemmas.Int.{to_z-of_z}
 use Rattle.geometry.proofs.Bounds.{mul_bounded, fits_64}
 use Rattle.mesh.proofs.halfedges.fold.product.Goals as goal
 
-pub overflow-mul-result : goal.overflow-mul-result
-overflow-mul-result c =
+pub overflow_mul-result : goal.overflow_mul-result
+overflow_mul-result c =
     let x = c.args in
     let fa : SFits w64 x.a = c.ranges.a in
     let fb : SFits w64 x.b = c.ranges.b in

@@ -3,16 +3,16 @@ use Rattle.std.proofs.lemmas.Int.{to_z-of_z}
 use Rattle.geometry.proofs.Bounds.{add_bounded, fits_64, same_64}
 use Rattle.mesh.proofs.halfedges.fold.scalar_product.Goals as goal
 
-pub overflow-add-result : goal.overflow-add-result
-overflow-add-result c =
+pub overflow_add-result : goal.overflow_add-result
+overflow_add-result c =
     let p = c.product.result in
     let q = c.product-2.result in
     let fp : SFits w64 p = fits_64 16913002500 p c.product.ensures.bound (lit< tt) in
     let fq : SFits w64 q = fits_64 16913002500 q c.product-2.ensures.bound (lit< tt) in
     simp to_z-of_z (fits_64 33826005000 (p +ℤ q) (add_bounded 16913002500 16913002500 p q c.product.ensures.bound c.product-2.ensures.bound) (lit< tt))
 
-pub overflow-add-result-2 : goal.overflow-add-result-2
-overflow-add-result-2 c =
+pub overflow_add-result-2 : goal.overflow_add-result-2
+overflow_add-result-2 c =
     let p = c.product.result in
     let q = c.product-2.result in
     let r = c.product-3.result in
@@ -40,9 +40,9 @@ returns c =
     let nx = same_64 130050 n.x c.requires.first_small.0 (lit< tt) in
     let ny = same_64 130050 n.y c.requires.first_small.1 (lit< tt) in
     let nz = same_64 130050 n.z c.requires.first_small.2 (lit< tt) in
-    let mx = same_64 130050 m.x c.requires.second-small.0 (lit< tt) in
-    let my = same_64 130050 m.y c.requires.second-small.1 (lit< tt) in
-    let mz = same_64 130050 m.z c.requires.second-small.2 (lit< tt) in
+    let mx = same_64 130050 m.x c.requires.second_small.0 (lit< tt) in
+    let my = same_64 130050 m.y c.requires.second_small.1 (lit< tt) in
+    let mz = same_64 130050 m.z c.requires.second_small.2 (lit< tt) in
     let vx : p ≡ n.x *ℤ m.x = cc (c.product.ensures.value, nx, mx) in
     let vy : q ≡ n.y *ℤ m.y = cc (c.product-2.ensures.value, ny, my) in
     let vz : r ≡ n.z *ℤ m.z = cc (c.product-3.ensures.value, nz, mz) in

@@ -20,4 +20,4 @@ invariant_of-self c =
     let vs = meshes.vertices_next m c.args.e c.requires.ahead c.requires.live c.requires.same c.join.new.self c.join.ensures.joined in
     let twins = meshes.twins_next m c.args.e c.requires.ahead c.requires.live c.requires.same c.join.new.self c.join.ensures.joined in
     let outs = meshes.outs_next m c.args.e c.requires.ahead c.requires.live c.requires.same c.join.new.self c.join.ensures.joined in
-    (m.few_vertices, (m.few_corners, (long, (many, (m.numbered, (placed, (m.log_room, (m.begun, (m.permitted, (cs, (ts, (vs, (twins, (outs, tt))))))))))))))
+    record { few_vertices = m.few_vertices; few_corners = m.few_corners; corners_long = long; vertices_long = many; numbered = m.numbered; placed = placed; log_room = m.log_room; begun = m.begun; permitted = m.permitted; corners_are = cs; triangles_are = ts; vertices_are = vs; twins_dead = twins; out_dead = outs }

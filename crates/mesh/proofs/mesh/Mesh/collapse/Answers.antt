@@ -4,17 +4,17 @@ use Rattle.mesh.specs.declared.record.Record.{Record}
 use Rattle.mesh.proofs.Calls.{permitted_along, record_is}
 use Rattle.mesh.proofs.mesh.Mesh.collapse.Goals as goal
 
-pub collapse-edge-requires : goal.collapse-edge-requires
-collapse-edge-requires c =
+pub collapse_edge-requires : goal.collapse_edge-requires
+collapse_edge-requires c =
     let m = c.args.self.now in
-    let (p, (x, t)) = c.in-ok-e.ensures.permit in
-    record { live = t.lives; permitted = ∣ permitted_along (held m.edges) (points m) c.args.u c.args.w c.in-ok-e.e x t p ∣₁ }
+    let (p, (x, t)) = c.in_ok-e.ensures.permit in
+    record { live = t.lives; permitted = ∣ permitted_along (held m.edges) (points m) c.args.u c.args.w c.in_ok-e.e x t p ∣₁ }
 
 pub returns : goal.returns
 returns c =
     let m = c.args.self.now in
-    let (p, (x, t)) = c.in-ok-e.ensures.permit in
-    let D = c.collapse-edge.ensures.collapsed in
+    let (p, (x, t)) = c.in_ok-e.ensures.permit in
+    let D = c.collapse_edge.ensures.collapsed in
     record {
       outcome =
           record {

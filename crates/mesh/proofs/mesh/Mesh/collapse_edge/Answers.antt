@@ -5,7 +5,7 @@ pub advance-requires : goal.advance-requires
 advance-requires c =
     let m = c.args.self.now in
     record {
-      ahead = meshes.noted_ahead m c.args.e c.record-of-r.result c.note.new.self c.record-of-r.ensures.value c.note.ensures.noted;
-      live = meshes.noted_live m c.args.e c.record-of-r.result c.note.new.self c.record-of-r.ensures.value c.note.ensures.noted c.requires.live;
-      same = meshes.noted_same m c.args.e c.record-of-r.result c.note.new.self c.record-of-r.ensures.value c.note.ensures.noted;
+      ahead = meshes.noted_ahead m c.args.e c.record_of-r.result c.note.new.self c.record_of-r.ensures.value c.note.ensures.noted;
+      live = meshes.noted_live m c.args.e c.record_of-r.result c.note.new.self c.record_of-r.ensures.value c.note.ensures.noted c.requires.live;
+      same = meshes.noted_same m c.args.e c.record_of-r.result c.note.new.self c.record_of-r.ensures.value c.note.ensures.noted;
     }

@@ -16,12 +16,12 @@ advance-requires c =
       same = record_is _ _ c.index-r.result.now t.from t.to ∙ record_read m c.index-r.result.now l c.index-r.ensures;
     }
 
-pub returns-in-default : goal.returns-in-default
-returns-in-default c =
+pub returns-in_default : goal.returns-in_default
+returns-in_default c =
     let m = c.args.self.now in
     let l : m.position < vec_len m.log = omega arith in
     let e = record_read m c.index-r.result.now l c.index-r.ensures in
-    absurd (c.in-default.ensures.leads (subst (λ (r : Record). Side (held m.edges) r.u r.w) (sym e) (side_ahead m l)))
+    absurd (c.in_default.ensures.leads (subst (λ (r : Record). Side (held m.edges) r.u r.w) (sym e) (side_ahead m l)))
 
 pub returns : goal.returns
 returns c =

@@ -24,4 +24,4 @@ invariant_of-self c =
     let long = J.corners_long ∙ m.corners_long in
     let many = J.vertices_long ∙ m.vertices_long in
     let placed : m.position - 1 ≤ vec_len m.log = omega (arith, m.placed) in
-    (m.few_vertices, (m.few_corners, (long, (many, (m.numbered, (placed, (m.log_room, (m.begun, (m.permitted, (J.corners_are, (J.triangles_are, (J.vertices_are, (t, (o, tt))))))))))))))
+    record { few_vertices = m.few_vertices; few_corners = m.few_corners; corners_long = long; vertices_long = many; numbered = m.numbered; placed = placed; log_room = m.log_room; begun = m.begun; permitted = m.permitted; corners_are = J.corners_are; triangles_are = J.triangles_are; vertices_are = J.vertices_are; twins_dead = t; out_dead = o }

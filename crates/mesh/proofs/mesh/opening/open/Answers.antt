@@ -11,15 +11,15 @@ invariant_of-mesh c =
     let e = c.in-Ok.field-0.edges in
     let l = c.in-Ok.field-0.log in
     let ready = c.in-Ok.ensures.outcome in
-    let parts = c.into-parts-positions.ensures in
+    let parts = c.into_parts-positions.ensures in
     let b = carried (λ (p : Vec Position Global) (o : Vec ℕ Global). Begun p o e l) parts.positions parts.corners (begun g e l ready.edges_live ready.log_empty ready.log_room ready.judged.0) in
     let placed : 0 ≤ vec_len l = omega arith in
-    (b.few_vertices, (b.few_corners, (b.corners_long, (b.vertices_long, (b.numbered, (placed, (b.log_room, (b.closed, (b.permitted, (b.corners_are, (b.triangles_are, (b.vertices_are, (b.twins_dead, (b.out_dead, tt))))))))))))))
+    record { few_vertices = b.few_vertices; few_corners = b.few_corners; corners_long = b.corners_long; vertices_long = b.vertices_long; numbered = b.numbered; placed = placed; log_room = b.log_room; begun = b.closed; permitted = b.permitted; corners_are = b.corners_are; triangles_are = b.triangles_are; vertices_are = b.vertices_are; twins_dead = b.twins_dead; out_dead = b.out_dead }
 
 pub returns-in-Ok : goal.returns-in-Ok
 returns-in-Ok c =
     let ready = c.in-Ok.ensures.outcome in
-    let parts = c.into-parts-positions.ensures in
+    let parts = c.into_parts-positions.ensures in
     record {
       outcome =
           record {

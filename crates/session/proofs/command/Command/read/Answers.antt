@@ -7,7 +7,7 @@ use Rattle.session.proofs.command.Command.read.Goals as goal
 
 pub returns-in-err-x : goal.returns-in-err-x
 returns-in-err-x c =
-    let p = err_from_is_err_and c.from-residual.result c.from-residual.ensures.1 in
+    let p = err_from_is_err_and c.from_residual.result c.from_residual.ensures.1 in
     let e = c.in-err-x.ensures.read in
     rw (p.1, p.2, e.0) (record { read = missing_words c.args.input.now c.args.at 86 short_vertex (omega arith) c.in-86.is e.1 })
 
