@@ -174,7 +174,7 @@ module _ (c d : Command) (rest more : List ℕ) (e : spelled c ++ rest ≡ spell
       go : ((s : Bor (List ℕ)) × (c ≡ Name s)) ⊎ ((make : List ℕ → Command) → made make c ≡ c) → ((t : Bor (List ℕ)) × (d ≡ Name t)) ⊎ ((make : List ℕ → Command) → made make d ≡ d) → Alike c d
       go (inl p) (inl q) =
           let s = p.0 in
-          let make : List ℕ → Command = λ l. Name (record { ref_ptr = s.ref_ptr; ghost_name = s.ghost_name; now = l }) in
+          let make : List ℕ → Command = λ l. Name (record s { now = l }) in
           let f : bytes_of (made make (Name s)) ≡ bytes_of (made make (Name q.0)) = ap (λ (x : Command). bytes_of (made make x)) (sym p.1) ∙ ap bytes_of (both make).0 ∙ ap (λ (x : Command). bytes_of (made make x)) q.1 in
           subst (λ (x : Command). Alike x d) (sym p.1) (subst (λ (x : Command). Alike (Name s) x) (sym q.1) (names f))
       go (inl p) (inr g) =

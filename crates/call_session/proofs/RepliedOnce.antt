@@ -1,5 +1,5 @@
 -- A command has one answer.
-use Rattle.std.proofs.Common.{◌≡◌, ℕ, ◌<◌, ◌≤◌, Bool, true, false, ◌⊎◌, List, [], ◌∷◌, ◌++◌, length, sym, refl, ap, ◌∙◌, subst, inl, inr, arith, MutBor}
+use Rattle.std.proofs.Common.{◌≡◌, ℕ, ◌<◌, ◌≤◌, Bool, true, false, ◌⊎◌, List, [], ◌∷◌, ◌++◌, length, sym, refl, ap, ◌∙◌, subst, inl, inr, arith, Bor}
 use Rattle.judging.specs.Verdict.{Judged}
 use Rattle.geometry.specs.declared.Position.{Position}
 use Rattle.gathering.specs.declared.refusal.VertexRefusal.{VertexRefusal}
@@ -147,7 +147,7 @@ replied_once (rule.Replied.called x) (rule.Replied.obeyed b) = elim b [ ]
 replied_once (rule.Replied.called {on} {b} {d} {c} {r} x) (rule.Replied.called {d = e} {r = t} y) = called_once on b d e c r t x y
 
 -- commands of one spelling are answered alike
-named_alike : {h k : Held} {r : Reply} (s t : MutBor (List ℕ)) → s.now ≡ t.now → Replied h (Name t) r k → Replied h (Name s) r k
+named_alike : {h k : Held} {r : Reply} (s t : Bor (List ℕ)) → s.now ≡ t.now → Replied h (Name t) r k → Replied h (Name s) r k
 named_alike s t e (rule.Replied.refused (rule.Refuses.already_opened c g)) = rule.Replied.refused (rule.Refuses.already_opened (Name s) tt)
 named_alike s t e (rule.Replied.refused (rule.Refuses.not_opened c g)) = absurd g
 named_alike s t e (rule.Replied.refused (rule.Refuses.name {named} q)) = rule.Replied.refused (rule.Refuses.name (subst (λ (l : List ℕ). NameRefused named l) (sym e) q))

@@ -1,5 +1,5 @@
 -- What the calls on a gathering answer, by the rules of the session.
-use Rattle.std.proofs.Common.{◌≡◌, ℕ, ◌<◌, ◌≤◌, Bool, true, false, ◌⊎◌, List, [], ◌∷◌, ◌++◌, length, Ok, Err, Result, sym, refl, ap, ◌∙◌, subst, inl, inr, MutBor}
+use Rattle.std.proofs.Common.{◌≡◌, ℕ, ◌<◌, ◌≤◌, Bool, true, false, ◌⊎◌, List, [], ◌∷◌, ◌++◌, length, Ok, Err, Result, sym, refl, ap, ◌∙◌, subst, inl, inr, Bor}
 use Rattle.gathering.specs.Gathered.{Unchanged, AddedVertex, AddedTriangle}
 use Rattle.gathering.specs.Model.{positions, corners}
 use Rattle.gathering.specs.declared.gathering.Gathering.{Gathering}
@@ -31,7 +31,7 @@ refusing : (named : Bool) (g h : Gathering) (c : Command) (e : Refusal) → Refu
 refusing named g h c e r u = subst (λ (k : Held). Replied (gathers named g) c (Refused e) k) (unchanged named g h u) (rule.Replied.refused r)
 
 -- a name that is refused: which of the tests came out true
-pub name_refused : (named : Bool) (ps : List Position) (cs : List ℕ) (s : MutBor (List ℕ)) →
+pub name_refused : (named : Bool) (ps : List Position) (cs : List ℕ) (s : Bor (List ℕ)) →
     (named ≡ true) ⊎ (((named ≡ false) × (length s.now ≡ 0)) ⊎ ((named ≡ false) × (length s.now ≡ 0 → ⊥) × (40 < length s.now))) →
     Replied (gathering named ps cs) (Name s) (Refused no.Name) (gathering named ps cs)
 name_refused named ps cs s (inl t) = rule.Replied.refused (rule.Refuses.name (inl t))

@@ -4,13 +4,13 @@ use Rattle.drawing.specs.Places.{triangle_place}
 use Rattle.drawing.proofs.Counts.{count_zero, count_on, count_off, count_most}
 use Rattle.drawing.proofs.Lows.{slots, few_triangles}
 use Rattle.drawing.proofs.places.count_triangles.Goals as goal
-use Rattle.drawing.proofs.places.count_triangles.Goals.{then-is-live, else-is-live}
+use Rattle.drawing.proofs.places.count_triangles.Goals.{then-is_live, else-is_live}
 
 pub loop-t-init : goal.loop-t-init
 loop-t-init c = sym (count_zero (held c.args.edges.now).alive)
 
-pub overflow-add-count : goal.overflow-add-count
-overflow-add-count c =
+pub overflow_add-count : goal.overflow_add-count
+overflow_add-count c =
     let m = count_most (held c.args.edges.now).alive c.loop-t.t in
     let f = few_triangles c.args.edges.now in
     let s = slots c.args.edges.now in
@@ -22,11 +22,11 @@ loop-t-preserved c =
     let f = (held c.args.edges.now).alive in
     let t = c.loop-t.t in
     let i : 3 * t / 3 ≡ t = omega arith in
-    let r = ap f (sym i) ∙ sym c.is-live.ensures.value in
+    let r = ap f (sym i) ∙ sym c.is_live.ensures.value in
     let k : c.loop-t.count ≡ triangle_place (held c.args.edges.now) t = c.loop-t.invariant in
-    elim c.if-is-live.branch [
-      | then-is-live w ↦ let n = count_on f t (r ∙ w.if-is-live.true) in let j = w.count-is in omega arith
-      | else-is-live w ↦ let n = count_off f t (r ∙ w.if-is-live.false) in let j = w.count-is in omega arith
+    elim c.if-is_live.branch [
+      | then-is_live w ↦ let n = count_on f t (r ∙ w.if-is_live.true) in let j = w.count-is in omega arith
+      | else-is_live w ↦ let n = count_off f t (r ∙ w.if-is_live.false) in let j = w.count-is in omega arith
     ]
 
 pub returns : goal.returns

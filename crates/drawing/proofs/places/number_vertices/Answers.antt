@@ -3,13 +3,13 @@ use Rattle.mesh.specs.Model.{held}
 use Rattle.drawing.specs.Places.{place}
 use Rattle.drawing.proofs.Counts.{count_zero, count_on, count_off, count_most}
 use Rattle.drawing.proofs.places.number_vertices.Goals as goal
-use Rattle.drawing.proofs.places.number_vertices.Goals.{then-is-vertex, else-is-vertex}
+use Rattle.drawing.proofs.places.number_vertices.Goals.{then-is_vertex, else-is_vertex}
 
 pub loop-v-init : goal.loop-v-init
 loop-v-init c = (sym (count_zero (held c.args.edges.now).present), λ v l. absurd (omega arith))
 
-pub overflow-add-count : goal.overflow-add-count
-overflow-add-count c =
+pub overflow_add-count : goal.overflow_add-count
+overflow_add-count c =
     let m = count_most (held c.args.edges.now).present c.loop-v.v in
     let f = c.args.edges.now.few_vertices in
     let i = c.loop-v.invariant.0 in
@@ -22,12 +22,12 @@ loop-v-preserved c =
     let v = c.loop-v.v in
     let k = c.loop-v.count in
     let l = c.loop-v.places in
-    let r = sym c.is-vertex.ensures.value in
+    let r = sym c.is_vertex.ensures.value in
     let i = c.loop-v.invariant.0 in
     let lt : v < length l = omega arith in (
-      elim c.if-is-vertex.branch [
-        | then-is-vertex w ↦ let n = count_on f v (r ∙ w.if-is-vertex.true) in let j = w.count-is in omega arith
-        | else-is-vertex w ↦ let n = count_off f v (r ∙ w.if-is-vertex.false) in let j = w.count-is in omega arith
+      elim c.if-is_vertex.branch [
+        | then-is_vertex w ↦ let n = count_on f v (r ∙ w.if-is_vertex.true) in let j = w.count-is in omega arith
+        | else-is_vertex w ↦ let n = count_off f v (r ∙ w.if-is_vertex.false) in let j = w.count-is in omega arith
       ],
       below_more (λ (j : ℕ). get_or (set l v k) j 0 ≡ place (held e) j) v
           (λ j m. let ne : j ≢ v = omega arith in get_or-set_other l v j k 0 ne ∙ c.loop-v.invariant.1 j m)

@@ -10,19 +10,19 @@ loop-i-init c = (points_none c.args.points.now _ c.requires.empty, refl)
 
 pub loop-i-preserved : goal.loop-i-preserved
 loop-i-preserved c =
-    let V = c.in-ok-vertex.ensures.outcome in (
-      points_more c.args.points.now c.loop-i.i c.loop-i-test.true _ _ _ _ c.in-quarters.ensures.value c.in-quarters-in-loop-i.ensures.value c.in-quarters-in-loop-i-2.ensures.value
+    let V = c.in_ok-vertex.ensures.outcome in (
+      points_more c.args.points.now c.loop-i.i c.loop-i-test.true _ _ _ _ c.in_quarters.ensures.value c.in_quarters-in-loop-i.ensures.value c.in_quarters-in-loop-i-2.ensures.value
           _ _ c.loop-i.invariant.0 V.appended,
       V.corners_same ∙ c.loop-i.invariant.1,
     )
 
-pub returns-in-err-vertex : goal.returns-in-err-vertex
-returns-in-err-vertex c =
-    let p = err_from_is_err_and c.from-residual.result c.from-residual.ensures.1 in
+pub returns-in_err-vertex : goal.returns-in_err-vertex
+returns-in_err-vertex c =
+    let p = err_from_is_err_and c.from_residual.result c.from_residual.ensures.1 in
     rw p.1 (record {
       outcome =
-          points_refused c.args.points.now c.loop-i.i c.loop-i-test.true _ _ _ _ c.in-quarters.ensures.value c.in-quarters-in-loop-i.ensures.value c.in-quarters-in-loop-i-2.ensures.value
-          c.loop-i.gathering c.vertex.new.self c.in-err-vertex.field-0.0 c.in-err-vertex.ensures.outcome c.loop-i.invariant.0;
+          points_refused c.args.points.now c.loop-i.i c.loop-i-test.true _ _ _ _ c.in_quarters.ensures.value c.in_quarters-in-loop-i.ensures.value c.in_quarters-in-loop-i-2.ensures.value
+          c.loop-i.gathering c.vertex.new.self c.in_err-vertex.field-0.0 c.in_err-vertex.ensures.outcome c.loop-i.invariant.0;
     })
 
 pub returns : goal.returns

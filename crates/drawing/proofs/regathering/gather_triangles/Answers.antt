@@ -11,19 +11,19 @@ loop-t-init c = (triangles_none c.args.triangles.now _ c.requires.empty, refl)
 
 pub loop-t-preserved : goal.loop-t-preserved
 loop-t-preserved c =
-    let V = c.in-ok-triangle.ensures.outcome in (
+    let V = c.in_ok-triangle.ensures.outcome in (
       triangles_more c.args.triangles.now c.loop-t.t c.loop-t-test.true (get_or c.args.triangles.now c.loop-t.t []) refl
           _ _ c.loop-t.invariant.0 V.appended,
       V.positions_same ∙ c.loop-t.invariant.1,
     )
 
-pub returns-in-err-triangle : goal.returns-in-err-triangle
-returns-in-err-triangle c =
-    let p = err_from_is_err_and c.from-residual.result c.from-residual.ensures.1 in
+pub returns-in_err-triangle : goal.returns-in_err-triangle
+returns-in_err-triangle c =
+    let p = err_from_is_err_and c.from_residual.result c.from_residual.ensures.1 in
     rw p.1 (record {
       outcome = λ F.
           triangles_refused c.args.triangles.now c.loop-t.t c.loop-t-test.true (get_or c.args.triangles.now c.loop-t.t []) refl
-          c.loop-t.gathering c.triangle.new.self c.in-err-triangle.field-0.0 c.in-err-triangle.ensures.outcome c.loop-t.invariant.0
+          c.loop-t.gathering c.triangle.new.self c.in_err-triangle.field-0.0 c.in_err-triangle.ensures.outcome c.loop-t.invariant.0
           (subst (λ (q : List Position). TrianglesFit c.args.triangles.now (length q)) (sym c.loop-t.invariant.1) F);
     })
 

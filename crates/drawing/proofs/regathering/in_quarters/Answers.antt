@@ -7,6 +7,6 @@ pub returns : goal.returns
 returns c =
     record {
       value = λ n Q.
-          c.saturating-f32-to-u16.ensures ∙ ap (λ (x : Float). to_unsigned 16 (mul binary32 c.args.metres x)) four ∙ ap (to_unsigned 16) Q.back
+          c.saturating_f32_to_u16.ensures ∙ ap (λ (x : Float). to_unsigned 16 (mul binary32 c.args.metres x)) four ∙ ap (to_unsigned 16) Q.back
           ∙ read_back n (let l = Q.low in omega arith);
     }

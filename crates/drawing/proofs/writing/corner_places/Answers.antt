@@ -2,8 +2,8 @@ use Rattle.std.proofs.Common.{◌∙◌, arith}
 use Rattle.drawing.proofs.Lows.{few_triangles, live_low, first_low, second_low, third_low, corners_read}
 use Rattle.drawing.proofs.writing.corner_places.Goals as goal
 
-pub overflow-mul-h : goal.overflow-mul-h
-overflow-mul-h c = let e = c.args.edges.now in omega (arith, live_low e c.args.t c.requires.live, few_triangles e)
+pub overflow_mul-h : goal.overflow_mul-h
+overflow_mul-h c = let e = c.args.edges.now in omega (arith, live_low e c.args.t c.requires.live, few_triangles e)
 
 pub bounds-places-a : goal.bounds-places-a
 bounds-places-a c = omega (arith, first_low c.args.edges.now c.args.t c.requires.live)

@@ -6,30 +6,30 @@ use Rattle.call_session.specs.Spelled.{short_vertex, short_triangle}
 use Rattle.call_session.proofs.Cuts.{missing_words, missing_gauge, read_letter, read_gauge, read_three}
 use Rattle.call_session.proofs.command.Command.read.Goals as goal
 
-pub returns-in-err-x : goal.returns-in-err-x
-returns-in-err-x c =
+pub returns-in_err-x-in-86 : goal.returns-in_err-x-in-86
+returns-in_err-x-in-86 c =
     let p = err_from_is_err_and c.from-residual.result c.from-residual.ensures.1 in
-    let e = c.in-err-x.ensures.read in
+    let e = c.in_err-x-in-86.ensures.read in
     rw (p.1, p.2, e.0) (record { read = missing_words c.args.input.now c.args.at 86 6 short_vertex (omega arith) c.in-86.is (omega (arith, e.1)) })
 
-pub returns-in-err-a : goal.returns-in-err-a
-returns-in-err-a c =
-    let p = err_from_is_err_and c.from-residual-in-err-a.result c.from-residual-in-err-a.ensures.1 in
-    let e = c.in-err-a.ensures.read in
+pub returns-in_err-a-in-84 : goal.returns-in_err-a-in-84
+returns-in_err-a-in-84 c =
+    let p = err_from_is_err_and c.from_residual-in_err-a-in-84.result c.from_residual-in_err-a-in-84.ensures.1 in
+    let e = c.in_err-a-in-84.ensures.read in
     rw (p.1, p.2, e.0) (record { read = missing_words c.args.input.now c.args.at 84 6 short_triangle (omega arith) c.in-84.is (omega (arith, e.1)) })
 
 pub returns-then-input-at-lt2 : goal.returns-then-input-at-lt2
 returns-then-input-at-lt2 c = record { read = missing_gauge c.args.input.now c.args.at (omega arith) c.in-79.is (omega arith) }
 
-pub returns-in-ok-x : goal.returns-in-ok-x
-returns-in-ok-x c =
-    let e = c.in-ok-x.ensures.read in
-    record { read = read_three c.args.input.now c.args.at (Vertex c.in-ok-x.x c.in-ok-x.y c.in-ok-x.z) 86 _ _ _ refl e.0 c.in-86.is e.1 }
+pub returns-in_ok-x-in-86 : goal.returns-in_ok-x-in-86
+returns-in_ok-x-in-86 c =
+    let e = c.in_ok-x-in-86.ensures.read in
+    record { read = read_three c.args.input.now c.args.at (Vertex c.in_ok-x-in-86.x c.in_ok-x-in-86.y c.in_ok-x-in-86.z) 86 _ _ _ refl e.0 c.in-86.is e.1 }
 
-pub returns-in-ok-a : goal.returns-in-ok-a
-returns-in-ok-a c =
-    let e = c.in-ok-a.ensures.read in
-    record { read = read_three c.args.input.now c.args.at (Triangle c.in-ok-a.a c.in-ok-a.b c.in-ok-a.c) 84 _ _ _ refl e.0 c.in-84.is e.1 }
+pub returns-in_ok-a-in-84 : goal.returns-in_ok-a-in-84
+returns-in_ok-a-in-84 c =
+    let e = c.in_ok-a-in-84.ensures.read in
+    record { read = read_three c.args.input.now c.args.at (Triangle c.in_ok-a-in-84.a c.in_ok-a-in-84.b c.in_ok-a-in-84.c) 84 _ _ _ refl e.0 c.in-84.is e.1 }
 
 pub returns-else-input-at-lt2 : goal.returns-else-input-at-lt2
 returns-else-input-at-lt2 c = record { read = read_gauge c.args.input.now c.args.at (omega arith) c.in-79.is }
