@@ -19,7 +19,7 @@ use Rattle.drawing.specs.declared.regathering.Unfit.{Unfit}
 use Rattle.drawing.specs.declared.regathering.Unfit.TheVariants.{NoMemory, Vertex, Triangle}
 use Rattle.drawing.proofs.Counts.{count_before, count_most, count_one_place, nth, nth_is}
 use Rattle.drawing.proofs.Lows.{triangle_slots_lem, few_triangles}
-use Rattle.drawing.proofs.Returned.{mesh_within, drawn_back}
+use Rattle.drawing.proofs.Returned.{mesh_within, drawn_back, came_back_whole}
 
 module _ (m : Mesh) (ps : List Point) (ts : List (List ℕ)) (a b : ℕ) (ps' : List Point) (ts' : List (List ℕ)) (D : Drawn m ps ts a b ps' ts') where
   abbrev S : Surface

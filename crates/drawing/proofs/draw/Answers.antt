@@ -1,7 +1,7 @@
 use Rattle.std.proofs.Common.{◌≡◌, ◌<◌, ◌≤◌, length, ◌∙◌, inl, inr, arith}
 use Rattle.drawing.proofs.Drawings.{all_drawn, too_short}
 use Rattle.drawing.proofs.draw.Goals as goal
-use Rattle.drawing.proofs.draw.Goals.{then-points-vertex_count-via-then-points-vertex_count, then-points-vertex-count-via-else-points-vertex-count+then-triangles-triangle-count}
+use Rattle.drawing.proofs.draw.Goals.{then-points-vertex_count-via-then-points-vertex_count, then-points-vertex_count-via-else-points-vertex_count+then-triangles-triangle_count}
 
 pub returns : goal.returns
 returns c =
@@ -20,6 +20,6 @@ returns-then-points-vertex_count c =
           c.number_vertices-vertex_count.ensures.value (c.from-triangle_count.ensures ∙ c.count_triangles.ensures.value) c.args.points.now c.args.triangles.now
           (elim c.then-points-vertex_count.branch [
             | then-points-vertex_count-via-then-points-vertex_count w ↦ inl w.if-points-vertex_count.true
-            | then-points-vertex-count-via-else-points-vertex-count+then-triangles-triangle-count w ↦ inr w.if-triangles-triangle_count.true
+            | then-points-vertex_count-via-else-points-vertex_count+then-triangles-triangle_count w ↦ inr w.if-triangles-triangle_count.true
           ]);
     }

@@ -5,6 +5,6 @@ pub returns : goal.returns
 returns c =
     record {
       value =
-          at_nested c.args.self c.args.p c.affine-along-x.result c.affine-along-y.result c.affine-along-z.result c.affine.result
-          c.affine-along-x.ensures.value c.affine-along-y.ensures.value c.affine-along-z.ensures.value c.affine.ensures.value;
+          at_nested c.args.self c.args.p c.affine-along_x.result c.affine-along_y.result c.affine-along_z.result c.affine.result
+          c.affine-along_x.ensures.value c.affine-along_y.ensures.value c.affine-along_z.ensures.value c.affine.ensures.value;
     }

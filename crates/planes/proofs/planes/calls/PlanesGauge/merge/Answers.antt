@@ -9,7 +9,7 @@ returns c =
     let ok = g.table.ok.0 in
     let inside = g.within in
     let within : g.entries ≤ length (vec_items g.table) = omega arith in
-    let two = c.if-not-are-two.ensures.told in
+    let two = c.if-not-are_two.ensures.told in
     record {
       merged = (
         two,

@@ -11,7 +11,7 @@ returns c =
     let n = length (vec_items m.positions) in
     let xs = c.gather.new.table in
     let count = ap length c.positions-n.ensures.value in
-    let long : length xs ≡ vec_len table = c.gather.auto.table ∙ c.deref-mut.ensures.len in
+    let long : length xs ≡ vec_len table = c.gather.auto.table ∙ c.deref_mut.ensures.len in
     record {
       opened = (
         omega arith,
