@@ -5,12 +5,12 @@ use Rattle.sweep.proofs.Costs.{Priced, priced}
 use Rattle.sweep.proofs.Pairs.{two_entries, not_entries}
 use Rattle.sweep.proofs.SweepGauge.cost.Goals as goal
 
-pub returns-in-default : goal.returns-in-default
-returns-in-default c =
+pub returns-in_default : goal.returns-in_default
+returns-in_default c =
     record {
       priced = λ (h, a, t) i j.
           let differ : c.args.u ≢ c.args.w = (closed_held c.args.mesh.now.edges).proper _ _ _ _ t in
-          let none = not_entries c.args.self.now.count c.in-default.ensures.pair in
+          let none = not_entries c.args.self.now.count c.in_default.ensures.pair in
           omega arith;
     }
 
@@ -23,7 +23,7 @@ returns c =
     let r = c.new.result in
     let two = two_entries c.args.self.now.count c.in-Ok.ensures.pair in
     let told =
-    priced c.edges-edges.result.now c.positions.result.now c.in-ok-e.ensures.leads.1 {n = n} two.1 two.2 _ _
+    priced c.edges-edges.result.now c.positions.result.now c.in_ok-e.ensures.leads.1 {n = n} two.1 two.2 _ _
     c.swept-volume.ensures.volume c.swept-volume.ensures.number r c.new.ensures in
     record {
       priced =

@@ -8,7 +8,7 @@ pub returns : goal.returns
 returns c =
     let s = c.args.self.now in
     record {
-      merged = pair_told s.count c.args.u c.args.w (sym (set-get_or (entries s) c.args.w tt)) refl c.check-pair.result c.check-pair.ensures.pair;
+      merged = pair_told s.count c.args.u c.args.w (sym (set-get_or (entries s) c.args.w tt)) refl c.check_pair.result c.check_pair.ensures.pair;
       setting = refl;
       capacity = refl;
     }

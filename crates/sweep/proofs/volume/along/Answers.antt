@@ -4,8 +4,8 @@ use Rattle.geometry.proofs.Bounds.{fits_64, same_64}
 use Rattle.sweep.proofs.Volumes.{along_bounded, along_is}
 use Rattle.sweep.proofs.volume.along.Goals as goal
 
-pub overflow-mul-result : goal.overflow-mul-result
-overflow-mul-result c =
+pub overflow_mul-result : goal.overflow_mul-result
+overflow_mul-result c =
     let x = c.args in
     let b = along_bounded x.n _ _ x.a x.b c.requires.small (omega arith) (omega arith) c.from.ensures c.from-2.ensures in
     let i = along_is x.n _ _ x.a x.b c.requires.small (omega arith) (omega arith) c.from.ensures c.from-2.ensures in

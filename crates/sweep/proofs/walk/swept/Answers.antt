@@ -16,13 +16,13 @@ share-size-requires c =
     let p = corner_within e (spin (tri_at (held e) c.args.e c.requires.live)) in
     record { live = here_live e (point_of c.args.positions.now) c.args.e c.requires.live c.end-w.ensures.value c.loop-h.invariant; placed = c.requires.placed; known = omega arith }
 
-pub overflow-add-volume : goal.overflow-add-volume
-overflow-add-volume c =
+pub overflow_add-volume : goal.overflow_add-volume
+overflow_add-volume c =
     let n = short c.args.edges.now (point_of c.args.positions.now) c.args.e c.requires.live c.end-w.ensures.value c.loop-h.invariant in
     record { fits = omega (arith, c.loop-h.invariant.small, c.share-size.ensures.adds.small) }
 
-pub overflow-add-number : goal.overflow-add-number
-overflow-add-number c =
+pub overflow_add-number : goal.overflow_add-number
+overflow_add-number c =
     let n = short c.args.edges.now (point_of c.args.positions.now) c.args.e c.requires.live c.end-w.ensures.value c.loop-h.invariant in
     record { fits = omega (arith, c.loop-h.invariant.few, c.share-size.ensures.adds.few) }
 
