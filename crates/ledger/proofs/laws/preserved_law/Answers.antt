@@ -2,4 +2,4 @@ use Rattle.ledger.proofs.Preserves.{preserved}
 use Rattle.ledger.proofs.laws.preserved_law.Goals as goal
 
 pub returns : goal.returns
-returns g c = record { stands = preserved g.G.Gauge g.Cost.Ordered }
+returns g c = record { stands = preserved g.G.Gauge g.G.Cost.Ordered }

@@ -6,7 +6,7 @@ use Rattle.opened_surface.proofs.calls.run_all.Goals as goal
 
 pub loop-call-init : goal.loop-call-init
 loop-call-init g c = (
-  λ K. ran_none g.G.Gauge g.Cost.Ordered c.args.mesh.now c.args.gauge.now c.args.queue.now c.args.stale.now K (vec_items c.args.answers.now) c.requires.empty,
+  λ K. ran_none g.G.Gauge g.G.Cost.Ordered c.args.mesh.now c.args.gauge.now c.args.queue.now c.args.stale.now K (vec_items c.args.answers.now) c.requires.empty,
   search rules,
   search rules,
 )
@@ -14,7 +14,7 @@ loop-call-init g c = (
 pub loop-call-preserved : goal.loop-call-preserved
 loop-call-preserved g c = (
   λ K.
-      ran_more g.G.Gauge g.Cost.Ordered c.args.mesh.now c.args.gauge.now c.args.calls.now c.loop-call.call-index _ _ _ _
+      ran_more g.G.Gauge g.G.Cost.Ordered c.args.mesh.now c.args.gauge.now c.args.calls.now c.loop-call.call-index _ _ _ _
       c.loop-call.mesh c.loop-call.gauge c.loop-call.queue c.loop-call.stale c.one.new.mesh c.one.new.gauge c.one.new.queue c.one.new.stale
       (c.loop-call.invariant.0 K) c.one.ensures.follows c.push-reserved.ensures.items c.loop-call-test.true
       (get_or_default c.args.calls.now c.loop-call.call-index _ _ c.loop-call-test.true),
@@ -26,6 +26,6 @@ pub returns : goal.returns
 returns g c =
     record {
       follows = λ K.
-          subst (λ l. FollowsAll g.G.Gauge g.Cost.Ordered c.args.mesh.now c.args.gauge.now l (vec_items c.loop-call.answers) c.loop-call.mesh c.loop-call.gauge c.loop-call.queue c.loop-call.stale)
+          subst (λ l. FollowsAll g.G.Gauge g.G.Cost.Ordered c.args.mesh.now c.args.gauge.now l (vec_items c.loop-call.answers) c.loop-call.mesh c.loop-call.gauge c.loop-call.queue c.loop-call.stale)
           (take_all c.loop-call.call-index c.args.calls.now c.loop-call-test.false) (c.loop-call.invariant.0 K);
     }

@@ -6,7 +6,7 @@ pub returns-then-target-log : goal.returns-then-target-log
 returns-then-target-log g c =
     record {
       follows = λ K.
-          log_beyond g.G.Gauge g.Cost.Ordered c.args.mesh.now c.args.gauge.now c.args.queue.now c.args.stale.now K c.log.result.now c.args.mesh.now.position c.args.target
+          log_beyond g.G.Gauge g.G.Cost.Ordered c.args.mesh.now c.args.gauge.now c.args.queue.now c.args.stale.now K c.log.result.now c.args.mesh.now.position c.args.target
           c.log.ensures.value refl c.if-target-log.true;
       unchanged = (refl, refl);
     }
@@ -15,7 +15,7 @@ pub returns-then-target-position : goal.returns-then-target-position
 returns-then-target-position g c =
     record {
       follows = λ K.
-          back_goes g.G.Gauge g.Cost.Ordered c.args.mesh.now c.args.gauge.now c.args.queue.now c.args.stale.now K c.log.result.now c.position-position.result c.args.target
+          back_goes g.G.Gauge g.G.Cost.Ordered c.args.mesh.now c.args.gauge.now c.args.queue.now c.args.stale.now K c.log.result.now c.position-position.result c.args.target
           c.log.ensures.value c.position-position.ensures.value c.if-target-log.false c.go-back.new.mesh c.go-back.new.gauge c.args.queue.now c.go-back.new.stale
           c.if-target-position.true (λ l. c.go-back.ensures.placed l c.args.queue.now K);
       unchanged = tt;
@@ -25,7 +25,7 @@ pub returns-else-target-position : goal.returns-else-target-position
 returns-else-target-position g c =
     record {
       follows = λ K.
-          on_goes g.G.Gauge g.Cost.Ordered c.args.mesh.now c.args.gauge.now c.args.queue.now c.args.stale.now K c.log.result.now c.position-position.result c.args.target
+          on_goes g.G.Gauge g.G.Cost.Ordered c.args.mesh.now c.args.gauge.now c.args.queue.now c.args.stale.now K c.log.result.now c.position-position.result c.args.target
           c.log.ensures.value c.position-position.ensures.value c.if-target-log.false c.go-on.new.mesh c.go-on.new.gauge c.go-on.new.queue c.go-on.new.stale
           c.if-target-position.false (c.go-on.ensures.placed K);
       unchanged = tt;

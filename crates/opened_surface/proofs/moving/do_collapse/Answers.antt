@@ -6,6 +6,6 @@ pub returns-in-Err : goal.returns-in-Err
 returns-in-Err g c =
     record {
       follows = λ K.
-          refused_follows g.G.Gauge g.Cost.Ordered c.args.mesh.now c.args.gauge.now c.args.queue.now c.args.stale.now K c.args.u c.args.w c.in-Err.why c.args.mesh.now c.in-Err.ensures.permit refl;
+          refused_follows g.G.Gauge g.G.Cost.Ordered c.args.mesh.now c.args.gauge.now c.args.queue.now c.args.stale.now K c.args.u c.args.w c.in-Err.why c.args.mesh.now c.in-Err.ensures.permit refl;
       unchanged = (refl, refl);
     }

@@ -7,7 +7,7 @@ pub returns-in-default : goal.returns-in-default
 returns-in-default g c =
     record {
       follows = λ q K.
-          undone_follows g.G.Gauge g.Cost.Ordered c.args.mesh.now c.args.gauge.now q c.args.stale.now K c.split.new.self
+          undone_follows g.G.Gauge g.G.Cost.Ordered c.args.mesh.now c.args.gauge.now q c.args.stale.now K c.split.new.self
           c.in-default.ensures.outcome.0 c.in-default.ensures.outcome.1;
       unchanged = (c.in-default.ensures.outcome.1, refl);
     }
@@ -18,10 +18,10 @@ returns g c =
     let r = c.in-Some.last in
     record {
       follows = λ q K.
-          split_follows g.G.Gauge g.Cost.Ordered c.args.mesh.now c.args.gauge.now q c.args.stale.now K r c.split.new.self c.part.new.self q c.mark-around.new.stale c.position.result
+          split_follows g.G.Gauge g.G.Cost.Ordered c.args.mesh.now c.args.gauge.now q c.args.stale.now K r c.split.new.self c.part.new.self q c.mark-around.new.stale c.position.result
           c.in-Some.ensures.outcome c.position.ensures.value c.part.ensures.setting
           (λ e f J.
-          part_tied g.G.Gauge g.Cost.Ordered laws.opened_long laws.opened_sound laws.merged_sound laws.back laws.unseen
+          part_tied g.G.Gauge g.G.Cost.Ordered laws.opened_long laws.opened_sound laws.merged_sound laws.back laws.unseen
           c.split.new.self c.args.mesh.now c.part.new.self c.args.gauge.now q c.args.stale.now c.mark-around.new.stale
           r.u r.w e f J c.mark-around.ensures.grown K c.part.ensures.setting c.part.result c.part.ensures.parted c.mark-around.ensures.covered);
       unchanged = tt;

@@ -12,7 +12,7 @@ returns-in-Ok g c =
       found = λ gauge R.
           let N = c.loop-h.invariant gauge R in (
             N,
-            first g.G.Gauge g.Cost.Ordered c.args.mesh.now gauge c.loop-h.queue N c.in-Some.h c.in-Some.key c.in-Some.ensures.held c.in-Some.ensures.least c.in-Ok.ensures.permit.0,
+            first g.G.Gauge g.G.Cost.Ordered c.args.mesh.now gauge c.loop-h.queue N c.in-Some.h c.in-Some.key c.in-Some.ensures.held c.in-Some.ensures.least c.in-Ok.ensures.permit.0,
           );
     }
 
@@ -21,7 +21,7 @@ loop-h-smaller g c = taken_fewer (keys_of c.loop-h.queue) c.in-Some.h c.in-Some.
 
 pub loop-h-preserved : goal.loop-h-preserved
 loop-h-preserved g c = λ gauge R.
-    ready_on g.G.Gauge g.Cost.Ordered c.args.mesh.now gauge c.loop-h.queue (c.loop-h.invariant gauge R) c.in-Some.h c.in-Some.key c.in-Some.ensures.held
+    ready_on g.G.Gauge g.G.Cost.Ordered c.args.mesh.now gauge c.loop-h.queue (c.loop-h.invariant gauge R) c.in-Some.h c.in-Some.key c.in-Some.ensures.held
     c.in-Err.field-0 c.in-Err.ensures.permit c.set.new.self c.set.ensures.keys c.set.ensures.sound
 
 pub returns : goal.returns
@@ -29,5 +29,5 @@ returns g c =
     record {
       found = λ gauge R.
           let N = c.loop-h.invariant gauge R in
-          (N, none_left g.G.Gauge g.Cost.Ordered c.args.mesh.now gauge c.loop-h.queue N c.in-default.ensures.held);
+          (N, none_left g.G.Gauge g.G.Cost.Ordered c.args.mesh.now gauge c.loop-h.queue N c.in-default.ensures.held);
     }

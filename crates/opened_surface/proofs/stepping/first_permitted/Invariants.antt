@@ -4,7 +4,7 @@ use Rattle.opened_surface.proofs.Present.{present}
 use Rattle.opened_surface.proofs.stepping.first_permitted.Given as goal
 
 abbrev pub invariant-loop-h : goal.invariant-loop-h
-invariant-loop-h g l = (gauge : g.row.G.Denot) → Ready g.G.Gauge g.Cost.Ordered l.mesh gauge l.initial.queue → Ready g.G.Gauge g.Cost.Ordered l.mesh gauge l.queue
+invariant-loop-h g l = (gauge : g.row.G.Denot) → Ready g.G.Gauge g.G.Cost.Ordered l.mesh gauge l.initial.queue → Ready g.G.Gauge g.G.Cost.Ordered l.mesh gauge l.queue
 
 abbrev pub decreases-loop-h : goal.decreases-loop-h
 decreases-loop-h g l = present (keys_of l.queue)

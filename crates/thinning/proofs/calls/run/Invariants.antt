@@ -4,7 +4,7 @@ use Rattle.thinning.proofs.calls.run.Given as goal
 
 abbrev pub invariant-loop-call : goal.invariant-loop-call
 invariant-loop-call g l =
-    (Tied g.G.Gauge g.Cost.Ordered l.initial.mesh l.initial.gauge l.initial.queue →
-    Ran g.G.Gauge g.Cost.Ordered l.initial.mesh l.initial.gauge (take l.call-index l.calls) (vec_items l.answers) l.mesh l.gauge l.queue)
+    (Tied g.G.Gauge g.G.Cost.Ordered l.initial.mesh l.initial.gauge l.initial.queue →
+    Ran g.G.Gauge g.G.Cost.Ordered l.initial.mesh l.initial.gauge (take l.call-index l.calls) (vec_items l.answers) l.mesh l.gauge l.queue)
     × (vec_len l.answers ≡ l.call-index)
     × (length l.calls ≤ vec_capacity l.answers)

@@ -4,17 +4,17 @@ use Rattle.thinning.proofs.Goes.{placed_first, placed_at_lem, placed_on}
 use Rattle.thinning.proofs.going.go_on.Goals as goal
 
 pub loop-init : goal.loop-init
-loop-init g c = λ K l. placed_first g.G.Gauge g.Cost.Ordered c.args.mesh.now c.args.gauge.now c.args.queue.now K _ (omega arith)
+loop-init g c = λ K l. placed_first g.G.Gauge g.G.Cost.Ordered c.args.mesh.now c.args.gauge.now c.args.queue.now K _ (omega arith)
 
 pub loop-preserved : goal.loop-preserved
 loop-preserved g c = λ K l.
-    placed_on g.G.Gauge g.Cost.Ordered c.args.mesh.now c.args.gauge.now _ c.loop.mesh c.loop.gauge c.loop.queue (c.loop.invariant K l)
+    placed_on g.G.Gauge g.G.Cost.Ordered c.args.mesh.now c.args.gauge.now _ c.loop.mesh c.loop.gauge c.loop.queue (c.loop.invariant K l)
     c.do-redo.new.mesh c.do-redo.new.gauge c.do-redo.new.queue (redo_answer c.do-redo.result) c.do-redo.ensures.follows (omega (arith, c.loop-test.true)) _ (omega arith)
 
 pub returns : goal.returns
 returns g c =
     record {
       placed = λ K l.
-          placed_at_lem g.G.Gauge g.Cost.Ordered c.args.mesh.now c.args.gauge.now c.loop.mesh c.loop.gauge c.loop.queue _ _ (c.loop.invariant K l)
+          placed_at_lem g.G.Gauge g.G.Cost.Ordered c.args.mesh.now c.args.gauge.now c.loop.mesh c.loop.gauge c.loop.queue _ _ (c.loop.invariant K l)
           (omega (arith, c.loop-test.false, c.loop.auto.counter-end));
     }

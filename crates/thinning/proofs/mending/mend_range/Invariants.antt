@@ -7,4 +7,4 @@ use Rattle.thinning.proofs.mending.mend_range.Given as goal
 abbrev pub invariant-loop-h : goal.invariant-loop-h
 invariant-loop-h g l =
     Step g.G.Gauge l.mesh l.gauge (λ k. (l.first ≤ k) × (k < l.h)) (keys_of l.initial.queue) (keys_of l.queue)
-    × (Sound g.Cost.Ordered l.initial.queue → Sound g.Cost.Ordered l.queue)
+    × (Sound g.G.Cost.Ordered l.initial.queue → Sound g.G.Cost.Ordered l.queue)

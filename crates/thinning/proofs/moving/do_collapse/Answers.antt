@@ -11,9 +11,9 @@ returns-in-default g c =
     let h = c.args.gauge.now in
     record {
       follows = λ K.
-          refused_follows g.G.Gauge g.Cost.Ordered a h c.args.queue.now K c.args.u c.args.w NoSide a
-          (unpriced g.G.Gauge g.Cost.Ordered a h c.args.queue.now c.args.u c.args.w
-          (accounted_by g.G.Gauge g.Cost.Ordered laws.opened_long laws.opened_sound laws.merged_sound laws.back a h K.account) c.in-default.ensures.priced)
+          refused_follows g.G.Gauge g.G.Cost.Ordered a h c.args.queue.now K c.args.u c.args.w NoSide a
+          (unpriced g.G.Gauge g.G.Cost.Ordered a h c.args.queue.now c.args.u c.args.w
+          (accounted_by g.G.Gauge g.G.Cost.Ordered laws.opened_long laws.opened_sound laws.merged_sound laws.back a h K.account) c.in-default.ensures.priced)
           refl;
     }
 
@@ -21,7 +21,7 @@ pub returns-in-Err : goal.returns-in-Err
 returns-in-Err g c =
     record {
       follows = λ K.
-          refused_follows g.G.Gauge g.Cost.Ordered c.args.mesh.now c.args.gauge.now c.args.queue.now K c.args.u c.args.w c.in-Err.why c.collapse.new.self
+          refused_follows g.G.Gauge g.G.Cost.Ordered c.args.mesh.now c.args.gauge.now c.args.queue.now K c.args.u c.args.w c.in-Err.why c.collapse.new.self
           c.in-Err.ensures.outcome.0 c.in-Err.ensures.outcome.1;
     }
 
@@ -29,7 +29,7 @@ pub returns : goal.returns
 returns g c =
     record {
       follows = λ K.
-          collapsed_follows g.G.Gauge g.Cost.Ordered c.args.mesh.now c.args.gauge.now c.args.queue.now K c.args.u c.args.w
+          collapsed_follows g.G.Gauge g.G.Cost.Ordered c.args.mesh.now c.args.gauge.now c.args.queue.now K c.args.u c.args.w
           c.in-Some-astride.e c.in-Some-astride.f c.collapse.new.self c.join.new.gauge c.join.new.queue c.in-Some.cost
           c.in-Some-astride.ensures.astride c.in-default-collapse.ensures.outcome c.in-Some.ensures.priced.3 c.join.ensures.fixed (λ J. c.join.ensures.tied c.args.mesh.now J K);
     }

@@ -5,14 +5,14 @@ use Rattle.thinning.proofs.moving.do_step.Goals as goal
 pub returns-in-default : goal.returns-in-default
 returns-in-default g c =
     record {
-      follows = λ K. none_follows g.G.Gauge g.Cost.Ordered c.args.mesh.now c.args.gauge.now c.args.queue.now K c.in-default.ensures.held;
+      follows = λ K. none_follows g.G.Gauge g.G.Cost.Ordered c.args.mesh.now c.args.gauge.now c.args.queue.now K c.in-default.ensures.held;
     }
 
 pub returns-in-Ok : goal.returns-in-Ok
 returns-in-Ok g c =
     record {
       follows = λ K.
-          stepped_follows g.G.Gauge g.Cost.Ordered c.args.mesh.now c.args.gauge.now c.args.queue.now K
+          stepped_follows g.G.Gauge g.G.Cost.Ordered c.args.mesh.now c.args.gauge.now c.args.queue.now K
           c.in-Some.field-0-0 c.in-Some.key c.in-Some.ensures.held c.in-Some.ensures.least
           c.do-collapse.new.mesh c.do-collapse.new.gauge c.do-collapse.new.queue c.in-Ok.cost (c.in-Ok.ensures.follows K);
     }
@@ -21,7 +21,7 @@ pub returns-in-Err : goal.returns-in-Err
 returns-in-Err g c =
     record {
       follows = λ K.
-          absurd (not_refused g.G.Gauge g.Cost.Ordered c.args.mesh.now c.args.gauge.now c.args.queue.now K
+          absurd (not_refused g.G.Gauge g.G.Cost.Ordered c.args.mesh.now c.args.gauge.now c.args.queue.now K
           c.in-Some.field-0-0 c.in-Some.key c.in-Some.ensures.held c.in-Some.ensures.least
           c.do-collapse.new.mesh c.do-collapse.new.gauge c.do-collapse.new.queue (refusal_of c.in-Err.field-0) (c.in-Err.ensures.follows K));
     }

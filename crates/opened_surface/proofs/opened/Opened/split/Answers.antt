@@ -9,9 +9,9 @@ use Rattle.opened_surface.proofs.opened.Opened.split.Goals as goal
 pub returns : goal.returns
 returns g c =
     let x = c.args.self.now in
-    let o = g.met.Cost.Ordered in
-    let words = step_in_words g.G.Gauge g.Cost.Ordered o.total o.transitive o.told in
+    let o = g.met.G.Cost.Ordered in
+    let words = step_in_words g.G.Gauge g.G.Cost.Ordered o.total o.transitive o.told in
     record {
-      called = λ K. called g.G.Gauge g.Cost.Ordered words x _ Split (split_answer c.do-split.result) (c.do-split.ensures.follows x.queue K.tied) K refl;
+      called = λ K. called g.G.Gauge g.G.Cost.Ordered words x _ Split (split_answer c.do-split.result) (c.do-split.ensures.follows x.queue K.tied) K refl;
       refused = none_same x _ refl c.do-split.result c.do-split.ensures.unchanged;
     }

@@ -10,10 +10,10 @@ use Rattle.opened_surface.proofs.opened.Opened.step.Goals as goal
 pub returns : goal.returns
 returns g c =
     let x = c.args.self.now in
-    let o = g.met.Cost.Ordered in
-    let words = step_in_words g.G.Gauge g.Cost.Ordered o.total o.transitive o.told in
+    let o = g.met.G.Cost.Ordered in
+    let words = step_in_words g.G.Gauge g.G.Cost.Ordered o.total o.transitive o.told in
     record {
-      called = λ K. called g.G.Gauge g.Cost.Ordered words x _ Step (step_answer c.do-step.result) (c.do-step.ensures.follows K.tied) K refl;
-      first = λ K. step_right g.G.Gauge g.Cost.Ordered words _ (c.do-step.ensures.follows K.tied).entry;
+      called = λ K. called g.G.Gauge g.G.Cost.Ordered words x _ Step (step_answer c.do-step.result) (c.do-step.ensures.follows K.tied) K refl;
+      first = λ K. step_right g.G.Gauge g.G.Cost.Ordered words _ (c.do-step.ensures.follows K.tied).entry;
       refused = none_same x _ refl c.do-step.result c.do-step.ensures.unchanged;
     }

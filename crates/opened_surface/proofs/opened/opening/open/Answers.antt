@@ -14,7 +14,7 @@ returns-in-Ok-open g c =
     let vertices : replicate (length c.positions-2.result.now) nothing ≡ replicate (length (positions c.args.gathering)) nothing = ap (λ l. replicate (length l) nothing) c.positions-2.ensures.value in
     record {
       outcome =
-          opened_with g.G.Gauge g.Cost.Ordered c.args.gathering c.args.gauge c.in-Ok-open.field-0 c.in-Ok-open.ensures.outcome c.in-Ok.queue c.in-Ok-new.stale c.begin.result c.begin.ensures.begun
+          opened_with g.G.Gauge g.G.Cost.Ordered c.args.gathering c.args.gauge c.in-Ok-open.field-0 c.in-Ok-open.ensures.outcome c.in-Ok.queue c.in-Ok-new.stale c.begin.result c.begin.ensures.begun
           (c.in-Ok.ensures.empty ∙ ap (λ l. replicate (length l) None) c.corners.ensures.value) c.in-Ok.ensures.sound (E.0 ∙ vertices, E.1 ∙ vertices)
           (omega (arith, many, c.most-vertices.ensures.value, c.if-most-vertices-positions.false));
     }

@@ -6,17 +6,17 @@ use Rattle.opened_surface.proofs.opened.thinned.thin.Goals as goal
 
 pub returns : goal.returns
 returns g c =
-    let o = g.met.Cost.Ordered in
-    let words = step_in_words g.G.Gauge g.Cost.Ordered o.total o.transitive o.told in
+    let o = g.met.G.Cost.Ordered in
+    let words = step_in_words g.G.Gauge g.G.Cost.Ordered o.total o.transitive o.told in
     let x = c.in-ok-opened.opened in
     let W = c.in-ok-opened.ensures.outcome in
     let answers = vec_items c.run-all.new.answers in
-    let R = ran g.G.Gauge g.Cost.Ordered words x _ c.args.calls.now answers (c.run-all.ensures.follows W.consistent.tied) W.consistent refl in
+    let R = ran g.G.Gauge g.G.Cost.Ordered words x _ c.args.calls.now answers (c.run-all.ensures.follows W.consistent.tied) W.consistent refl in
     record {
       outcome = record {
         judged = W.judged;
         taken = W.taken;
-        promise = from_gathered g.G.Gauge g.Cost.Ordered c.args.gathering c.args.gauge x _ c.args.calls.now answers W R;
+        promise = from_gathered g.G.Gauge g.G.Cost.Ordered c.args.gathering c.args.gauge x _ c.args.calls.now answers W R;
         consistent = R.consistent;
       };
     }
