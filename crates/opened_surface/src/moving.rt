@@ -42,7 +42,7 @@ fn join<G: Gauge>(
 )
     requires few { (e < 6144) × (f < 6144) }
     ensures tied { (a : A-mesh) (s : A-stale) → Joined G.Gauge a u w e f mesh.now → Covered G.Gauge (surface_of a) u w (repriced s) (reopened s) → Tied G.Gauge G.Cost.Ordered a gauge.old queue.old s → Tied G.Gauge G.Cost.Ordered mesh.now gauge.new queue.new s }
-    ensures fixed { setting gauge.new ≡ setting gauge.old }
+    ensures fixed { G.setting gauge.new ≡ G.setting gauge.old }
 {
     let _ = gauge.merge(u, w);
     mend_triangle(mesh, gauge, queue, e / 3);

@@ -37,7 +37,7 @@ fn join<G: Gauge>(
 )
     requires few { (e < 6144) × (f < 6144) }
     ensures tied { (a : A-mesh) → Joined G.Gauge a u w e f mesh.now → Tied G.Gauge G.Cost.Ordered a gauge.old queue.old → Tied G.Gauge G.Cost.Ordered mesh.now gauge.new queue.new }
-    ensures fixed { setting gauge.new ≡ setting gauge.old }
+    ensures fixed { G.setting gauge.new ≡ G.setting gauge.old }
 {
     let _ = gauge.merge(u, w);
     mend_around(mesh, gauge, queue, w);

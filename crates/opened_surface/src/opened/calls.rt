@@ -38,7 +38,7 @@ impl<G: Gauge> Opened<G> {
     /// and then the least `w`.
     pub fn step(&mut self) -> Option<Key<G::Cost>>
         ensures called { Consistent G.Gauge G.Cost.Ordered self.old → Called G.Gauge G.Cost.Ordered self.old Step (step_answer result) self.new }
-        ensures first { Consistent G.Gauge G.Cost.Ordered self.old → StepRight G.Gauge G.Cost.Ordered (setting self.old.gauge) (book_of self.old.mesh) (step_answer result) }
+        ensures first { Consistent G.Gauge G.Cost.Ordered self.old → StepRight G.Gauge G.Cost.Ordered (G.setting self.old.gauge) (book_of self.old.mesh) (step_answer result) }
         ensures refused { IfNone result (Untouched self.old self.new) }
     {
         do_step(

@@ -51,7 +51,7 @@ impl<G: Gauge> Opened<G> {
 
     /// What the collapse of `u` to `w` costs now, if (`u`, `w`) is a side.
     pub fn cost(&self, u: u16, w: u16) -> Option<G::Cost>
-        ensures cost { Consistent G.Gauge G.Cost.Ordered self.now → MatchOption result (Side (surface_of self.now.mesh) u w → ⊥) (λ k. Side (surface_of self.now.mesh) u w × (k ≡ cost_now G.Gauge (setting self.now.gauge) (book_of self.now.mesh) u w)) }
+        ensures cost { Consistent G.Gauge G.Cost.Ordered self.now → MatchOption result (Side (surface_of self.now.mesh) u w → ⊥) (λ k. Side (surface_of self.now.mesh) u w × (k ≡ cost_now G.Gauge (G.setting self.now.gauge) (book_of self.now.mesh) u w)) }
     {
         self.gauge.cost(&self.mesh, u, w)
     }

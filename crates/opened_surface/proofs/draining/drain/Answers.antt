@@ -10,23 +10,23 @@ loop-x-init g c = (begins g.G.Gauge c.args.mesh.now c.args.gauge.now c.args.mend
 pub loop-x-preserved : goal.loop-x-preserved
 loop-x-preserved g c = (
   drains g.G.Gauge c.args.mesh.now c.args.gauge.now c.args.mending (keys_of c.args.set.now) (keys_of c.args.queue.now) (keys_of c.loop-x.set) (keys_of c.loop-x.queue) c.loop-x.invariant.0
-      c.in-Some.x c.in-Some.field-0-1 c.in-Some.ensures.held (keys_of c.mend-vertex.new.queue) (λ a _. c.mend-vertex.ensures.mended a) (keys_of c.set.new.self) c.set.ensures.keys,
-  λ s. c.mend-vertex.ensures.sound (c.loop-x.invariant.1 s),
+      c.in-Some.x c.in-Some.field-0-1 c.in-Some.ensures.held (keys_of c.mend_vertex.new.queue) (λ a _. c.mend_vertex.ensures.mended a) (keys_of c.set.new.self) c.set.ensures.keys,
+  λ s. c.mend_vertex.ensures.sound (c.loop-x.invariant.1 s),
 )
 
 pub loop-x-smaller : goal.loop-x-smaller
 loop-x-smaller g c = taken_fewer (keys_of c.loop-x.set) c.in-Some.x c.in-Some.field-0-1 c.in-Some.ensures.held (keys_of c.set.new.self) c.set.ensures.keys
 
-pub overflow-cast-x : goal.overflow-cast-x
-overflow-cast-x g c = let p : c.in-Some.x < 6144 = few_held c.loop-x.set c.in-Some.x c.in-Some.field-0-1 c.in-Some.ensures.held in search rules
+pub overflow_cast-x : goal.overflow_cast-x
+overflow_cast-x g c = let p : c.in-Some.x < 6144 = few_held c.loop-x.set c.in-Some.x c.in-Some.field-0-1 c.in-Some.ensures.held in search rules
 
 pub returns : goal.returns
 returns g c =
     record {
       mended =
           drained g.G.Gauge c.args.mesh.now c.args.gauge.now c.args.mending (keys_of c.args.set.now) (keys_of c.args.queue.now) (keys_of c.loop-x.set) (keys_of c.loop-x.queue) c.loop-x.invariant.0
-          c.in-default.ensures.held;
-      emptied = c.in-default.ensures.held;
+          c.in_default.ensures.held;
+      emptied = c.in_default.ensures.held;
       long = c.loop-x.invariant.0.long;
       sound = c.loop-x.invariant.1;
     }

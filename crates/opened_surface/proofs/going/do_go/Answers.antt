@@ -16,8 +16,8 @@ returns-then-target-position g c =
     record {
       follows = λ K.
           back_goes g.G.Gauge g.G.Cost.Ordered c.args.mesh.now c.args.gauge.now c.args.queue.now c.args.stale.now K c.log.result.now c.position-position.result c.args.target
-          c.log.ensures.value c.position-position.ensures.value c.if-target-log.false c.go-back.new.mesh c.go-back.new.gauge c.args.queue.now c.go-back.new.stale
-          c.if-target-position.true (λ l. c.go-back.ensures.placed l c.args.queue.now K);
+          c.log.ensures.value c.position-position.ensures.value c.if-target-log.false c.go_back.new.mesh c.go_back.new.gauge c.args.queue.now c.go_back.new.stale
+          c.if-target-position.true (λ l. c.go_back.ensures.placed l c.args.queue.now K);
       unchanged = tt;
     }
 
@@ -26,7 +26,7 @@ returns-else-target-position g c =
     record {
       follows = λ K.
           on_goes g.G.Gauge g.G.Cost.Ordered c.args.mesh.now c.args.gauge.now c.args.queue.now c.args.stale.now K c.log.result.now c.position-position.result c.args.target
-          c.log.ensures.value c.position-position.ensures.value c.if-target-log.false c.go-on.new.mesh c.go-on.new.gauge c.go-on.new.queue c.go-on.new.stale
-          c.if-target-position.false (c.go-on.ensures.placed K);
+          c.log.ensures.value c.position-position.ensures.value c.if-target-log.false c.go_on.new.mesh c.go_on.new.gauge c.go_on.new.queue c.go_on.new.stale
+          c.if-target-position.false (c.go_on.ensures.placed K);
       unchanged = tt;
     }

@@ -9,7 +9,7 @@ loop-init g c = λ l q K. placed_first g.G.Gauge g.G.Cost.Ordered c.args.mesh.no
 pub loop-preserved : goal.loop-preserved
 loop-preserved g c = λ l q K.
     placed_back g.G.Gauge g.G.Cost.Ordered c.args.mesh.now c.args.gauge.now _ c.loop.mesh c.loop.gauge q c.loop.stale (c.loop.invariant l q K)
-    c.do-split.new.mesh c.do-split.new.gauge q c.do-split.new.stale (split_answer c.do-split.result) (c.do-split.ensures.follows q) (omega (arith, c.loop-test.true)) _ (omega arith)
+    c.do_split.new.mesh c.do_split.new.gauge q c.do_split.new.stale (split_answer c.do_split.result) (c.do_split.ensures.follows q) (omega (arith, c.loop-test.true)) _ (omega arith)
 
 pub returns : goal.returns
 returns g c =

@@ -4,11 +4,11 @@ use Rattle.opened_surface.specs.Mending.{Fit}
 use Rattle.opened_surface.proofs.Walked.{left_alone}
 use Rattle.opened_surface.proofs.keys.refresh.Goals as goal
 
-pub returns-then-is-some : goal.returns-then-is-some
-returns-then-is-some g c =
+pub returns-then-is_some : goal.returns-then-is_some
+returns-then-is_some g c =
     let keys = keys_of c.args.queue.now in
     let some : is_some (get_or keys c.args.h None) ≡ true =
-    ap (λ i. is_some (get_or keys i None)) (sym c.from.ensures) ∙ sym (ap is_some c.key.ensures) ∙ sym c.if-is-some.ensures in
+    ap (λ i. is_some (get_or keys i None)) (sym c.from.ensures) ∙ sym (ap is_some c.key.ensures) ∙ sym c.if-is_some.ensures in
     record {
       refreshed = λ f. left_alone g.G.Gauge c.args.mesh.now c.args.gauge.now c.args.h keys (subst (λ how. Fit g.G.Gauge c.args.mesh.now c.args.gauge.now how keys) c.in-Reopen.is f) some;
       sound = λ s. s;

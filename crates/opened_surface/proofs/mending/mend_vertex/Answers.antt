@@ -19,7 +19,7 @@ loop-h-preserved g c = (
       c.loop-h.h c.around-h.result (keys_of c.loop-h.queue) c.loop-h.invariant.0 c.around-h.ensures.turns (keys_of c.refresh-in-loop-h.new.queue)
       (pair_step g.G.Gauge c.args.mesh.now c.args.gauge.now (Accounted g.G.Gauge c.args.mesh.now c.args.gauge.now × Fit g.G.Gauge c.args.mesh.now c.args.gauge.now c.args.mending (keys_of c.args.queue.now)) c.edges-edges.result.now c.edges-edges.ensures.value
       c.loop-h.h c.twin.result (keys_of c.loop-h.queue) (keys_of c.refresh.new.queue) (keys_of c.refresh-in-loop-h.new.queue)
-      c.loop-h.invariant.0.going.live.2.lives c.twin.ensures.runs-opposite (λ a. a.0)
+      c.loop-h.invariant.0.going.live.2.lives c.twin.ensures.runs_opposite (λ a. a.0)
       (λ a. c.refresh.ensures.refreshed (fit_now g.G.Gauge c.args.mesh.now c.args.gauge.now _ _ c.args.mending (c.loop-h.invariant.0.mended a) a.1))
       (λ a. c.refresh-in-loop-h.ensures.refreshed (fit_next g.G.Gauge c.args.mesh.now c.args.gauge.now _ _ _ c.args.mending c.loop-h.h (c.loop-h.invariant.0.mended a) a.0 c.refresh.ensures.refreshed a.1)))
       c.if-h-first.false,
@@ -32,12 +32,12 @@ loop-h-smaller g c =
     (Pair (surface c.args.mesh.now)) c.args.x c.in-Some.first (keys_of c.args.queue.now) c.in-Some.ensures.begins
     c.loop-h.h c.around-h.result (keys_of c.loop-h.queue) c.loop-h.invariant.0 c.around-h.ensures.turns c.if-h-first.false
 
-pub returns-in-default : goal.returns-in-default
-returns-in-default g c =
+pub returns-in_default : goal.returns-in_default
+returns-in_default g c =
     record {
       mended =
           none_touching g.G.Gauge c.args.mesh.now c.args.gauge.now (Accounted g.G.Gauge c.args.mesh.now c.args.gauge.now × Fit g.G.Gauge c.args.mesh.now c.args.gauge.now c.args.mending (keys_of c.args.queue.now)) c.edges-edges.result.now c.edges-edges.ensures.value
-          c.args.x (keys_of c.args.queue.now) c.in-default.ensures.begins;
+          c.args.x (keys_of c.args.queue.now) c.in_default.ensures.begins;
       sound = λ s. s;
     }
 
@@ -50,7 +50,7 @@ returns-then-h-first g c =
           c.loop-h.h c.around-h.result (keys_of c.loop-h.queue) (keys_of c.refresh-in-loop-h.new.queue) c.loop-h.invariant.0 c.around-h.ensures.turns
           (pair_step g.G.Gauge c.args.mesh.now c.args.gauge.now (Accounted g.G.Gauge c.args.mesh.now c.args.gauge.now × Fit g.G.Gauge c.args.mesh.now c.args.gauge.now c.args.mending (keys_of c.args.queue.now)) c.edges-edges.result.now c.edges-edges.ensures.value
           c.loop-h.h c.twin.result (keys_of c.loop-h.queue) (keys_of c.refresh.new.queue) (keys_of c.refresh-in-loop-h.new.queue)
-          c.loop-h.invariant.0.going.live.2.lives c.twin.ensures.runs-opposite (λ a. a.0)
+          c.loop-h.invariant.0.going.live.2.lives c.twin.ensures.runs_opposite (λ a. a.0)
           (λ a. c.refresh.ensures.refreshed (fit_now g.G.Gauge c.args.mesh.now c.args.gauge.now _ _ c.args.mending (c.loop-h.invariant.0.mended a) a.1))
           (λ a. c.refresh-in-loop-h.ensures.refreshed (fit_next g.G.Gauge c.args.mesh.now c.args.gauge.now _ _ _ c.args.mending c.loop-h.h (c.loop-h.invariant.0.mended a) a.0 c.refresh.ensures.refreshed a.1)))
           c.if-h-first.true;

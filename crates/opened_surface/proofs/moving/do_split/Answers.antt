@@ -3,13 +3,13 @@ use Rattle.opened_surface.proofs.Ties.{part_tied}
 use Rattle.opened_surface.proofs.Outcomes.{undone_follows, split_follows}
 use Rattle.opened_surface.proofs.moving.do_split.Goals as goal
 
-pub returns-in-default : goal.returns-in-default
-returns-in-default g c =
+pub returns-in_default : goal.returns-in_default
+returns-in_default g c =
     record {
       follows = λ q K.
           undone_follows g.G.Gauge g.G.Cost.Ordered c.args.mesh.now c.args.gauge.now q c.args.stale.now K c.split.new.self
-          c.in-default.ensures.outcome.0 c.in-default.ensures.outcome.1;
-      unchanged = (c.in-default.ensures.outcome.1, refl);
+          c.in_default.ensures.outcome.0 c.in_default.ensures.outcome.1;
+      unchanged = (c.in_default.ensures.outcome.1, refl);
     }
 
 pub returns : goal.returns
@@ -18,11 +18,11 @@ returns g c =
     let r = c.in-Some.last in
     record {
       follows = λ q K.
-          split_follows g.G.Gauge g.G.Cost.Ordered c.args.mesh.now c.args.gauge.now q c.args.stale.now K r c.split.new.self c.part.new.self q c.mark-around.new.stale c.position.result
+          split_follows g.G.Gauge g.G.Cost.Ordered c.args.mesh.now c.args.gauge.now q c.args.stale.now K r c.split.new.self c.part.new.self q c.mark_around.new.stale c.position.result
           c.in-Some.ensures.outcome c.position.ensures.value c.part.ensures.setting
           (λ e f J.
           part_tied g.G.Gauge g.G.Cost.Ordered laws.opened_long laws.opened_sound laws.merged_sound laws.back laws.unseen
-          c.split.new.self c.args.mesh.now c.part.new.self c.args.gauge.now q c.args.stale.now c.mark-around.new.stale
-          r.u r.w e f J c.mark-around.ensures.grown K c.part.ensures.setting c.part.result c.part.ensures.parted c.mark-around.ensures.covered);
+          c.split.new.self c.args.mesh.now c.part.new.self c.args.gauge.now q c.args.stale.now c.mark_around.new.stale
+          r.u r.w e f J c.mark_around.ensures.grown K c.part.ensures.setting c.part.result c.part.ensures.parted c.mark_around.ensures.covered);
       unchanged = tt;
     }

@@ -3,13 +3,13 @@ use Rattle.opened_surface.specs.Calls.{refusal_of}
 use Rattle.opened_surface.proofs.Steps.{ready_tied, stepped_follows, not_refused, none_follows}
 use Rattle.opened_surface.proofs.stepping.do_step.Goals as goal
 
-pub returns-in-default : goal.returns-in-default
-returns-in-default g c =
+pub returns-in_default : goal.returns-in_default
+returns-in_default g c =
     record {
       follows = λ K.
           let (R, z) = c.clear.ensures.ready K in
-          let (Q, N) = c.in-default.ensures.found c.args.gauge.now R in
-          none_follows g.G.Gauge g.G.Cost.Ordered c.args.mesh.now c.args.gauge.now c.first-permitted.new.queue c.clear.new.stale Q z N;
+          let (Q, N) = c.in_default.ensures.found c.args.gauge.now R in
+          none_follows g.G.Gauge g.G.Cost.Ordered c.args.mesh.now c.args.gauge.now c.first_permitted.new.queue c.clear.new.stale Q z N;
       unchanged = (refl, refl);
     }
 
@@ -19,9 +19,9 @@ returns-in-Ok g c =
       follows = λ K.
           let (R, z) = c.clear.ensures.ready K in
           let (Q, F) = c.in-Some.ensures.found c.args.gauge.now R in
-          stepped_follows g.G.Gauge g.G.Cost.Ordered c.args.mesh.now c.args.gauge.now c.first-permitted.new.queue c.clear.new.stale Q z
+          stepped_follows g.G.Gauge g.G.Cost.Ordered c.args.mesh.now c.args.gauge.now c.first_permitted.new.queue c.clear.new.stale Q z
           c.in-Some.key.u c.in-Some.key.w F c.perform.new.mesh c.perform.new.gauge c.perform.new.queue c.perform.new.stale c.in-Ok.cost
-          (c.in-Ok.ensures.follows (ready_tied g.G.Gauge g.G.Cost.Ordered c.args.mesh.now c.args.gauge.now c.first-permitted.new.queue c.clear.new.stale Q z));
+          (c.in-Ok.ensures.follows (ready_tied g.G.Gauge g.G.Cost.Ordered c.args.mesh.now c.args.gauge.now c.first_permitted.new.queue c.clear.new.stale Q z));
       unchanged = tt;
     }
 
@@ -31,8 +31,8 @@ returns-in-Err g c =
       follows = λ K.
           let (R, z) = c.clear.ensures.ready K in
           let (Q, F) = c.in-Some.ensures.found c.args.gauge.now R in
-          absurd (not_refused g.G.Gauge g.G.Cost.Ordered c.args.mesh.now c.args.gauge.now c.first-permitted.new.queue c.clear.new.stale Q z
+          absurd (not_refused g.G.Gauge g.G.Cost.Ordered c.args.mesh.now c.args.gauge.now c.first_permitted.new.queue c.clear.new.stale Q z
           c.in-Some.key.u c.in-Some.key.w F c.perform.new.mesh c.perform.new.gauge c.perform.new.queue c.perform.new.stale (refusal_of c.in-Err.field-0)
-          (c.in-Err.ensures.follows (ready_tied g.G.Gauge g.G.Cost.Ordered c.args.mesh.now c.args.gauge.now c.first-permitted.new.queue c.clear.new.stale Q z)));
+          (c.in-Err.ensures.follows (ready_tied g.G.Gauge g.G.Cost.Ordered c.args.mesh.now c.args.gauge.now c.first_permitted.new.queue c.clear.new.stale Q z)));
       unchanged = c.in-Err.ensures.unchanged;
     }

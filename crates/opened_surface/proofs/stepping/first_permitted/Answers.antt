@@ -29,5 +29,5 @@ returns g c =
     record {
       found = λ gauge R.
           let N = c.loop-h.invariant gauge R in
-          (N, none_left g.G.Gauge g.G.Cost.Ordered c.args.mesh.now gauge c.loop-h.queue N c.in-default.ensures.held);
+          (N, none_left g.G.Gauge g.G.Cost.Ordered c.args.mesh.now gauge c.loop-h.queue N c.in_default.ensures.held);
     }

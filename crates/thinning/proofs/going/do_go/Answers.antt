@@ -15,8 +15,8 @@ returns-then-target-position g c =
     record {
       follows = λ K.
           back_goes g.G.Gauge g.G.Cost.Ordered c.args.mesh.now c.args.gauge.now c.args.queue.now K c.log.result.now c.position-position.result c.args.target
-          c.log.ensures.value c.position-position.ensures.value c.if-target-log.false c.go-back.new.mesh c.go-back.new.gauge c.go-back.new.queue
-          c.if-target-position.true c.go-back.ensures.placed;
+          c.log.ensures.value c.position-position.ensures.value c.if-target-log.false c.go_back.new.mesh c.go_back.new.gauge c.go_back.new.queue
+          c.if-target-position.true c.go_back.ensures.placed;
     }
 
 pub returns-else-target-position : goal.returns-else-target-position
@@ -24,6 +24,6 @@ returns-else-target-position g c =
     record {
       follows = λ K.
           on_goes g.G.Gauge g.G.Cost.Ordered c.args.mesh.now c.args.gauge.now c.args.queue.now K c.log.result.now c.position-position.result c.args.target
-          c.log.ensures.value c.position-position.ensures.value c.if-target-log.false c.go-on.new.mesh c.go-on.new.gauge c.go-on.new.queue
-          c.if-target-position.false c.go-on.ensures.placed;
+          c.log.ensures.value c.position-position.ensures.value c.if-target-log.false c.go_on.new.mesh c.go_on.new.gauge c.go_on.new.queue
+          c.if-target-position.false c.go_on.ensures.placed;
     }

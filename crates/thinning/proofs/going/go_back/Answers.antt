@@ -9,7 +9,7 @@ loop-init g c = λ K l. placed_first g.G.Gauge g.G.Cost.Ordered c.args.mesh.now 
 pub loop-preserved : goal.loop-preserved
 loop-preserved g c = λ K l.
     placed_back g.G.Gauge g.G.Cost.Ordered c.args.mesh.now c.args.gauge.now _ c.loop.mesh c.loop.gauge c.loop.queue (c.loop.invariant K l)
-    c.do-split.new.mesh c.do-split.new.gauge c.do-split.new.queue (split_answer c.do-split.result) c.do-split.ensures.follows (omega (arith, c.loop-test.true)) _ (omega arith)
+    c.do_split.new.mesh c.do_split.new.gauge c.do_split.new.queue (split_answer c.do_split.result) c.do_split.ensures.follows (omega (arith, c.loop-test.true)) _ (omega arith)
 
 pub returns : goal.returns
 returns g c =

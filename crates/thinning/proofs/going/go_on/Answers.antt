@@ -9,7 +9,7 @@ loop-init g c = λ K l. placed_first g.G.Gauge g.G.Cost.Ordered c.args.mesh.now 
 pub loop-preserved : goal.loop-preserved
 loop-preserved g c = λ K l.
     placed_on g.G.Gauge g.G.Cost.Ordered c.args.mesh.now c.args.gauge.now _ c.loop.mesh c.loop.gauge c.loop.queue (c.loop.invariant K l)
-    c.do-redo.new.mesh c.do-redo.new.gauge c.do-redo.new.queue (redo_answer c.do-redo.result) c.do-redo.ensures.follows (omega (arith, c.loop-test.true)) _ (omega arith)
+    c.do_redo.new.mesh c.do_redo.new.gauge c.do_redo.new.queue (redo_answer c.do_redo.result) c.do_redo.ensures.follows (omega (arith, c.loop-test.true)) _ (omega arith)
 
 pub returns : goal.returns
 returns g c =

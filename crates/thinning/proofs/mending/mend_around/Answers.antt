@@ -15,11 +15,11 @@ pub loop-h-preserved : goal.loop-h-preserved
 loop-h-preserved g c = (
   step_on g.G.Gauge c.args.mesh.now c.args.gauge.now c.edges-edges.result.now c.edges-edges.ensures.value
       (Ahead (surface c.args.mesh.now)) c.args.w c.in-Some.first (keys_of c.args.queue.now) c.in-Some.ensures.begins
-      c.loop-h.h c.around-h.result (keys_of c.loop-h.queue) c.loop-h.invariant.0 c.around-h.ensures.turns (keys_of c.mend-vertex.new.queue)
+      c.loop-h.h c.around-h.result (keys_of c.loop-h.queue) c.loop-h.invariant.0 c.around-h.ensures.turns (keys_of c.mend_vertex.new.queue)
       (ahead_step g.G.Gauge c.args.mesh.now c.args.gauge.now c.edges-edges.result.now c.edges-edges.ensures.value
-      c.loop-h.h c.end.result (keys_of c.loop-h.queue) (keys_of c.mend-vertex.new.queue) c.end.ensures.value c.mend-vertex.ensures.mended)
+      c.loop-h.h c.end.result (keys_of c.loop-h.queue) (keys_of c.mend_vertex.new.queue) c.end.ensures.value c.mend_vertex.ensures.mended)
       c.if-h-first.false,
-  λ s. c.mend-vertex.ensures.sound (c.loop-h.invariant.1 s),
+  λ s. c.mend_vertex.ensures.sound (c.loop-h.invariant.1 s),
 )
 
 pub loop-h-smaller : goal.loop-h-smaller
@@ -28,12 +28,12 @@ loop-h-smaller g c =
     (Ahead (surface c.args.mesh.now)) c.args.w c.in-Some.first (keys_of c.args.queue.now) c.in-Some.ensures.begins
     c.loop-h.h c.around-h.result (keys_of c.loop-h.queue) c.loop-h.invariant.0 c.around-h.ensures.turns c.if-h-first.false
 
-pub returns-in-default : goal.returns-in-default
-returns-in-default g c =
+pub returns-in_default : goal.returns-in_default
+returns-in_default g c =
     record {
       mended =
           none_around g.G.Gauge c.args.mesh.now c.args.gauge.now c.edges-edges.result.now c.edges-edges.ensures.value
-          c.args.w (keys_of c.args.queue.now) c.in-default.ensures.begins;
+          c.args.w (keys_of c.args.queue.now) c.in_default.ensures.begins;
       sound = λ s. s;
     }
 
@@ -43,9 +43,9 @@ returns-then-h-first g c =
       mended =
           all_around g.G.Gauge c.args.mesh.now c.args.gauge.now c.edges-edges.result.now c.edges-edges.ensures.value
           c.args.w c.in-Some.first (keys_of c.args.queue.now) c.in-Some.ensures.begins
-          c.loop-h.h c.around-h.result (keys_of c.loop-h.queue) (keys_of c.mend-vertex.new.queue) c.loop-h.invariant.0 c.around-h.ensures.turns
+          c.loop-h.h c.around-h.result (keys_of c.loop-h.queue) (keys_of c.mend_vertex.new.queue) c.loop-h.invariant.0 c.around-h.ensures.turns
           (ahead_step g.G.Gauge c.args.mesh.now c.args.gauge.now c.edges-edges.result.now c.edges-edges.ensures.value
-          c.loop-h.h c.end.result (keys_of c.loop-h.queue) (keys_of c.mend-vertex.new.queue) c.end.ensures.value c.mend-vertex.ensures.mended)
+          c.loop-h.h c.end.result (keys_of c.loop-h.queue) (keys_of c.mend_vertex.new.queue) c.end.ensures.value c.mend_vertex.ensures.mended)
           c.if-h-first.true;
-      sound = λ s. c.mend-vertex.ensures.sound (c.loop-h.invariant.1 s);
+      sound = λ s. c.mend_vertex.ensures.sound (c.loop-h.invariant.1 s);
     }

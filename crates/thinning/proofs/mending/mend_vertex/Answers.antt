@@ -18,7 +18,7 @@ loop-h-preserved g c = (
       c.loop-h.h c.around-h.result (keys_of c.loop-h.queue) c.loop-h.invariant.0 c.around-h.ensures.turns (keys_of c.refresh-in-loop-h.new.queue)
       (pair_step g.G.Gauge c.args.mesh.now c.args.gauge.now c.edges-edges.result.now c.edges-edges.ensures.value
       c.loop-h.h c.twin.result (keys_of c.loop-h.queue) (keys_of c.refresh.new.queue) (keys_of c.refresh-in-loop-h.new.queue)
-      c.loop-h.invariant.0.going.live.2.lives c.twin.ensures.runs-opposite c.refresh.ensures.refreshed c.refresh-in-loop-h.ensures.refreshed)
+      c.loop-h.invariant.0.going.live.2.lives c.twin.ensures.runs_opposite c.refresh.ensures.refreshed c.refresh-in-loop-h.ensures.refreshed)
       c.if-h-first.false,
   λ s. c.refresh-in-loop-h.ensures.sound (c.refresh.ensures.sound (c.loop-h.invariant.1 s)),
 )
@@ -29,12 +29,12 @@ loop-h-smaller g c =
     (Pair (surface c.args.mesh.now)) c.args.x c.in-Some.first (keys_of c.args.queue.now) c.in-Some.ensures.begins
     c.loop-h.h c.around-h.result (keys_of c.loop-h.queue) c.loop-h.invariant.0 c.around-h.ensures.turns c.if-h-first.false
 
-pub returns-in-default : goal.returns-in-default
-returns-in-default g c =
+pub returns-in_default : goal.returns-in_default
+returns-in_default g c =
     record {
       mended =
           none_touching g.G.Gauge c.args.mesh.now c.args.gauge.now c.edges-edges.result.now c.edges-edges.ensures.value
-          c.args.x (keys_of c.args.queue.now) c.in-default.ensures.begins;
+          c.args.x (keys_of c.args.queue.now) c.in_default.ensures.begins;
       sound = λ s. s;
     }
 
@@ -47,7 +47,7 @@ returns-then-h-first g c =
           c.loop-h.h c.around-h.result (keys_of c.loop-h.queue) (keys_of c.refresh-in-loop-h.new.queue) c.loop-h.invariant.0 c.around-h.ensures.turns
           (pair_step g.G.Gauge c.args.mesh.now c.args.gauge.now c.edges-edges.result.now c.edges-edges.ensures.value
           c.loop-h.h c.twin.result (keys_of c.loop-h.queue) (keys_of c.refresh.new.queue) (keys_of c.refresh-in-loop-h.new.queue)
-          c.loop-h.invariant.0.going.live.2.lives c.twin.ensures.runs-opposite c.refresh.ensures.refreshed c.refresh-in-loop-h.ensures.refreshed)
+          c.loop-h.invariant.0.going.live.2.lives c.twin.ensures.runs_opposite c.refresh.ensures.refreshed c.refresh-in-loop-h.ensures.refreshed)
           c.if-h-first.true;
       sound = λ s. c.refresh-in-loop-h.ensures.sound (c.refresh.ensures.sound (c.loop-h.invariant.1 s));
     }

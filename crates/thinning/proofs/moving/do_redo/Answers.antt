@@ -2,12 +2,12 @@ use Rattle.std.proofs.Common.{refl}
 use Rattle.thinning.proofs.Outcomes.{unredone_follows, redone_follows}
 use Rattle.thinning.proofs.moving.do_redo.Goals as goal
 
-pub returns-in-default : goal.returns-in-default
-returns-in-default g c =
+pub returns-in_default : goal.returns-in_default
+returns-in_default g c =
     record {
       follows = λ K.
           unredone_follows g.G.Gauge g.G.Cost.Ordered c.args.mesh.now c.args.gauge.now c.args.queue.now K c.args.mesh.now
-          c.in-default.ensures.ahead refl;
+          c.in_default.ensures.ahead refl;
     }
 
 pub returns : goal.returns

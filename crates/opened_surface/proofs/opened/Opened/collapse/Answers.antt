@@ -12,6 +12,6 @@ returns g c =
     let o = g.met.G.Cost.Ordered in
     let words = step_in_words g.G.Gauge g.G.Cost.Ordered o.total o.transitive o.told in
     record {
-      called = λ K. called g.G.Gauge g.G.Cost.Ordered words x _ (Collapse c.args.u c.args.w) (collapse_answer c.do-collapse.result) (c.do-collapse.ensures.follows K.tied) K refl;
-      refused = refused_same x _ refl c.do-collapse.result c.do-collapse.ensures.unchanged;
+      called = λ K. called g.G.Gauge g.G.Cost.Ordered words x _ (Collapse c.args.u c.args.w) (collapse_answer c.do_collapse.result) (c.do_collapse.ensures.follows K.tied) K refl;
+      refused = refused_same x _ refl c.do_collapse.result c.do_collapse.ensures.unchanged;
     }

@@ -12,6 +12,6 @@ returns g c =
     let o = g.met.G.Cost.Ordered in
     let words = step_in_words g.G.Gauge g.G.Cost.Ordered o.total o.transitive o.told in
     record {
-      called = λ K. called g.G.Gauge g.G.Cost.Ordered words x _ (Go c.args.target) (go_answer c.do-go.result) (c.do-go.ensures.follows K.tied) K refl;
-      refused = none_same x _ refl c.do-go.result c.do-go.ensures.unchanged;
+      called = λ K. called g.G.Gauge g.G.Cost.Ordered words x _ (Go c.args.target) (go_answer c.do_go.result) (c.do_go.ensures.follows K.tied) K refl;
+      refused = none_same x _ refl c.do_go.result c.do_go.ensures.unchanged;
     }

@@ -12,6 +12,6 @@ returns g c =
     let o = g.met.G.Cost.Ordered in
     let words = step_in_words g.G.Gauge g.G.Cost.Ordered o.total o.transitive o.told in
     record {
-      called = λ K. called g.G.Gauge g.G.Cost.Ordered words x _ Redo (redo_answer c.do-redo.result) (c.do-redo.ensures.follows K.tied) K refl;
-      refused = none_same x _ refl c.do-redo.result c.do-redo.ensures.unchanged;
+      called = λ K. called g.G.Gauge g.G.Cost.Ordered words x _ Redo (redo_answer c.do_redo.result) (c.do_redo.ensures.follows K.tied) K refl;
+      refused = none_same x _ refl c.do_redo.result c.do_redo.ensures.unchanged;
     }

@@ -12,6 +12,6 @@ returns g c =
     let o = g.met.G.Cost.Ordered in
     let words = step_in_words g.G.Gauge g.G.Cost.Ordered o.total o.transitive o.told in
     record {
-      called = λ K. called g.G.Gauge g.G.Cost.Ordered words x _ Split (split_answer c.do-split.result) (c.do-split.ensures.follows x.queue K.tied) K refl;
-      refused = none_same x _ refl c.do-split.result c.do-split.ensures.unchanged;
+      called = λ K. called g.G.Gauge g.G.Cost.Ordered words x _ Split (split_answer c.do_split.result) (c.do_split.ensures.follows x.queue K.tied) K refl;
+      refused = none_same x _ refl c.do_split.result c.do_split.ensures.unchanged;
     }

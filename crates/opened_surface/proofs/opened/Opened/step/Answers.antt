@@ -13,7 +13,7 @@ returns g c =
     let o = g.met.G.Cost.Ordered in
     let words = step_in_words g.G.Gauge g.G.Cost.Ordered o.total o.transitive o.told in
     record {
-      called = λ K. called g.G.Gauge g.G.Cost.Ordered words x _ Step (step_answer c.do-step.result) (c.do-step.ensures.follows K.tied) K refl;
-      first = λ K. step_right g.G.Gauge g.G.Cost.Ordered words _ (c.do-step.ensures.follows K.tied).entry;
-      refused = none_same x _ refl c.do-step.result c.do-step.ensures.unchanged;
+      called = λ K. called g.G.Gauge g.G.Cost.Ordered words x _ Step (step_answer c.do_step.result) (c.do_step.ensures.follows K.tied) K refl;
+      first = λ K. step_right g.G.Gauge g.G.Cost.Ordered words _ (c.do_step.ensures.follows K.tied).entry;
+      refused = none_same x _ refl c.do_step.result c.do_step.ensures.unchanged;
     }

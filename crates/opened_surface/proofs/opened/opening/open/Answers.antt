@@ -16,5 +16,5 @@ returns-in-Ok-open g c =
       outcome =
           opened_with g.G.Gauge g.G.Cost.Ordered c.args.gathering c.args.gauge c.in-Ok-open.field-0 c.in-Ok-open.ensures.outcome c.in-Ok.queue c.in-Ok-new.stale c.begin.result c.begin.ensures.begun
           (c.in-Ok.ensures.empty ∙ ap (λ l. replicate (length l) None) c.corners.ensures.value) c.in-Ok.ensures.sound (E.0 ∙ vertices, E.1 ∙ vertices)
-          (omega (arith, many, c.most-vertices.ensures.value, c.if-most-vertices-positions.false));
+          (omega (arith, many, c.most_vertices.ensures.value, c.if-most_vertices-positions.false));
     }

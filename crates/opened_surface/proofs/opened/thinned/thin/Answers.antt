@@ -8,10 +8,10 @@ pub returns : goal.returns
 returns g c =
     let o = g.met.G.Cost.Ordered in
     let words = step_in_words g.G.Gauge g.G.Cost.Ordered o.total o.transitive o.told in
-    let x = c.in-ok-opened.opened in
-    let W = c.in-ok-opened.ensures.outcome in
-    let answers = vec_items c.run-all.new.answers in
-    let R = ran g.G.Gauge g.G.Cost.Ordered words x _ c.args.calls.now answers (c.run-all.ensures.follows W.consistent.tied) W.consistent refl in
+    let x = c.in_ok-opened.opened in
+    let W = c.in_ok-opened.ensures.outcome in
+    let answers = vec_items c.run_all.new.answers in
+    let R = ran g.G.Gauge g.G.Cost.Ordered words x _ c.args.calls.now answers (c.run_all.ensures.follows W.consistent.tied) W.consistent refl in
     record {
       outcome = record {
         judged = W.judged;

@@ -12,11 +12,11 @@ loop-h-preserved c =
 pub loop-h-smaller : goal.loop-h-smaller
 loop-h-smaller c = nearer c.args.mesh.now c.args.mending c.args.stale.now c.edges-edges.result.now c.edges-edges.ensures.value c.args.u c.in-Some.first c.in-Some.ensures.begins c.loop-h.h c.around-h.result c.loop-h.stale c.loop-h.invariant c.around-h.ensures.turns c.if-h-first.false
 
-pub returns-in-default : goal.returns-in-default
-returns-in-default c =
+pub returns-in_default : goal.returns-in_default
+returns-in_default c =
     record {
       grown = grown_same c.args.stale.now;
-      round = λ x s l. absurd (none_round c.args.mesh.now c.args.mending c.args.stale.now c.edges-edges.result.now c.edges-edges.ensures.value c.args.u c.in-default.ensures.begins x s);
+      round = λ x s l. absurd (none_round c.args.mesh.now c.args.mending c.args.stale.now c.edges-edges.result.now c.edges-edges.ensures.value c.args.u c.in_default.ensures.begins x s);
     }
 
 pub returns-then-h-first : goal.returns-then-h-first
