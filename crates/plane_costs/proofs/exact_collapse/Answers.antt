@@ -5,6 +5,6 @@ pub returns : goal.returns
 returns c =
     record {
       called = c.collapse.ensures.called;
-      exact = λ K. exact_collapse c.args.opened.now.mesh c.look-over.ensures.bytes c.args.u c.args.w c.collapse.result (c.collapse.ensures.called K).promise.ledger;
+      exact = λ K. exact_collapse c.args.opened.now.mesh c.look_over.ensures.bytes c.args.u c.args.w c.collapse.result (c.collapse.ensures.called K).promise.ledger;
       refused = c.collapse.ensures.refused;
     }

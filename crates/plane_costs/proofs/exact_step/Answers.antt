@@ -6,6 +6,6 @@ returns c =
     record {
       called = c.step.ensures.called;
       first = c.step.ensures.first;
-      exact = λ K. exact_step c.args.opened.now.mesh c.look-over.ensures.bytes c.step.result (c.step.ensures.first K);
+      exact = λ K. exact_step c.args.opened.now.mesh c.look_over.ensures.bytes c.step.result (c.step.ensures.first K);
       refused = c.step.ensures.refused;
     }

@@ -8,6 +8,6 @@ returns-then-input-at-lt5 c = record { read = missing_words c.args.input.now c.a
 
 pub returns : goal.returns
 returns c =
-    let u = c.read-word-u.ensures in
-    let w = c.read-word-w.ensures in
+    let u = c.read_word-u.ensures in
+    let w = c.read_word-w.ensures in
     record { read = read_two c.args.input.now c.args.at _ _ (omega arith) c.requires.letter u.low u.high w.low w.high }

@@ -8,5 +8,5 @@ returns-then-input-at-lt3 c = record { read = missing_words c.args.input.now c.a
 
 pub returns : goal.returns
 returns c =
-    let k = c.read-word.ensures in
+    let k = c.read_word.ensures in
     record { read = rw c.from-target.ensures (read_one c.args.input.now c.args.at _ (omega arith) c.requires.letter k.low k.high) }

@@ -4,11 +4,11 @@ use Rattle.call_session.specs.Session as session
 use Rattle.call_session.proofs.Runs.{from_nothing, one_from_nothing}
 use Rattle.call_session.proofs.run.run.Goals as goal
 
-pub returns-then-input-gt-MOST-BYTES : goal.returns-then-input-gt-MOST-BYTES
-returns-then-input-gt-MOST-BYTES c =
-    record { answered = (refused 25 0 ∷ [], session.Answered.too_long c.if-input-gt-MOST-BYTES.true, one_from_nothing _ _ (refused 25 0) c.new-out.ensures.items c.in-ok-write-refused.ensures.written) }
+pub returns-then-input-gt-MOST_BYTES : goal.returns-then-input-gt-MOST_BYTES
+returns-then-input-gt-MOST_BYTES c =
+    record { answered = (refused 25 0 ∷ [], session.Answered.too_long c.if-input-gt-MOST_BYTES.true, one_from_nothing _ _ (refused 25 0) c.new-out.ensures.items c.in_ok-write_refused.ensures.written) }
 
 pub returns : goal.returns
 returns c =
-    let a = c.in-ok-answer.ensures.answered in
-    record { answered = (a.0, session.Answered.read c.if-input-gt-MOST-BYTES.false a.1, from_nothing _ _ a.0 c.new-out.ensures.items a.2) }
+    let a = c.in_ok-answer.ensures.answered in
+    record { answered = (a.0, session.Answered.read c.if-input-gt-MOST_BYTES.false a.1, from_nothing _ _ a.0 c.new-out.ensures.items a.2) }

@@ -8,4 +8,4 @@ use Rattle.plane_costs.proofs.coordinates.look_over.Goals as goal
 pub returns : goal.returns
 returns c =
     let same = c.positions.ensures.value ∙ ap (λ (m : Mesh). vec_items m.positions) c.mesh.ensures.value in
-    record { bytes = subst (λ (ps : List Position). (v : ℕ) → Bytes (point_of ps v)) same c.look-at.ensures.bytes }
+    record { bytes = subst (λ (ps : List Position). (v : ℕ) → Bytes (point_of ps v)) same c.look_at.ensures.bytes }

@@ -8,7 +8,7 @@ use Rattle.call_session.proofs.command.Command.read.Goals as goal
 
 pub returns-in_err-x-in-86 : goal.returns-in_err-x-in-86
 returns-in_err-x-in-86 c =
-    let p = err_from_is_err_and c.from-residual.result c.from-residual.ensures.1 in
+    let p = err_from_is_err_and c.from_residual.result c.from_residual.ensures.1 in
     let e = c.in_err-x-in-86.ensures.read in
     rw (p.1, p.2, e.0) (record { read = missing_words c.args.input.now c.args.at 86 6 short_vertex (omega arith) c.in-86.is (omega (arith, e.1)) })
 

@@ -10,7 +10,7 @@ returns-in-Ok c =
     let W = c.in-Ok.ensures.outcome in
     record {
       replied = (
-        opened_replied by_planes whole_order Planes c.args.self.named c.args.self.gathering c.in-ok-gauge.gauge c.in-ok-gauge.ensures.made.0 c.in-Ok.opened c.counts-counts.result W (c.counts-counts.ensures.counted W.consistent),
+        opened_replied by_planes whole_order Planes c.args.self.named c.args.self.gathering c.in_ok-gauge.gauge c.in_ok-gauge.ensures.made.0 c.in-Ok.opened c.counts-counts.result W (c.counts-counts.ensures.counted W.consistent),
         W.consistent,
       );
     }
@@ -19,6 +19,6 @@ pub returns-in-Err : goal.returns-in-Err
 returns-in-Err c =
     record {
       replied =
-          IfOk-weaker c.not-opened.result _ _
-          (λ p. back_replied by_planes whole_order Planes c.args.self.named c.args.self.gathering c.in-ok-gauge.gauge c.in-ok-gauge.ensures.made.0 c.in-Err.unopened c.in-Err.ensures.outcome p.0 p.1) c.not-opened.ensures.back;
+          IfOk-weaker c.not_opened.result _ _
+          (λ p. back_replied by_planes whole_order Planes c.args.self.named c.args.self.gathering c.in_ok-gauge.gauge c.in_ok-gauge.ensures.made.0 c.in-Err.unopened c.in-Err.ensures.outcome p.0 p.1) c.not_opened.ensures.back;
     }

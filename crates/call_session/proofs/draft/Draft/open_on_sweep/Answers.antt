@@ -19,6 +19,6 @@ pub returns-in-Err : goal.returns-in-Err
 returns-in-Err c =
     record {
       replied =
-          IfOk-weaker c.not-opened.result _ _
-          (λ p. back_replied by_sweep fraction_order Sweep c.args.self.named c.args.self.gathering c.new.result refl c.in-Err.unopened c.in-Err.ensures.outcome p.0 p.1) c.not-opened.ensures.back;
+          IfOk-weaker c.not_opened.result _ _
+          (λ p. back_replied by_sweep fraction_order Sweep c.args.self.named c.args.self.gathering c.new.result refl c.in-Err.unopened c.in-Err.ensures.outcome p.0 p.1) c.not_opened.ensures.back;
     }

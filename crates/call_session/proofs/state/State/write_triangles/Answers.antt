@@ -11,6 +11,6 @@ pub returns-in-Opened : goal.returns-in-Opened
 returns-in-Opened c =
     rw c.in-Opened.is
     (record {
-      written = IfOk-weaker c.write-triangles.result _ _
-          (λ _ e. e ∙ ap (λ l. vec_items c.args.out.now ++ texts l) (hull_lines c.in-Opened.hull c.edges.result.now c.edges.ensures.value)) c.write-triangles.ensures.written;
+      written = IfOk-weaker c.write_triangles.result _ _
+          (λ _ e. e ∙ ap (λ l. vec_items c.args.out.now ++ texts l) (hull_lines c.in-Opened.hull c.edges.result.now c.edges.ensures.value)) c.write_triangles.ensures.written;
     })
