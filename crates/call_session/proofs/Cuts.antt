@@ -1,10 +1,10 @@
 -- What stands at an offset, byte by byte.
-use Rattle.std.proofs.Common.{◌≡◌, ℕ, suc, ◌+◌, ◌-◌, ◌/◌, ◌%◌, ◌<◌, ◌≤◌, List, [], ◌∷◌, ◌++◌, length, get_or, take, drop, sym, refl, ap, ◌∙◌, subst, arith, length-drop, take-append-drop, length-take, Bor}
+use Rattle.std.proofs.Common.{◌≡◌, ℕ, ◌+◌, ◌-◌, ◌/◌, ◌%◌, ◌<◌, ◌≤◌, List, [], ◌∷◌, ◌++◌, length, get_or, take, drop, sym, refl, ap, ◌∙◌, arith, length-drop, take-append-drop, length-take, Bor}
 use Rattle.std.proofs.lemmas.List.{drop_more, drop-drop, drop_all}
 use Rattle.ledger.specs.declared.call.Call.TheVariants.{Collapse, Go}
 use Rattle.call_session.specs.declared.command.Command.{Command}
-use Rattle.call_session.specs.declared.command.Command.TheVariants.{Name, Vertex, Triangle, Open, Call, Write, End}
-use Rattle.call_session.specs.Spelled.{word, spelled, Missing, no_count, short_name, short_vertex, short_triangle, no_gauge, short_collapse, short_go}
+use Rattle.call_session.specs.declared.command.Command.TheVariants.{Name, Open, Call}
+use Rattle.call_session.specs.Spelled.{word, spelled, Missing, no_count, short_name, no_gauge}
 use Rattle.call_session.specs.Reading.{Read}
 
 -- two bytes that are a number of 16 bits

@@ -1,12 +1,12 @@
 -- A command and what follows it are known by the bytes.
-use Rattle.std.proofs.Common.{◌≡◌, ℕ, ◌+◌, ◌*◌, ◌/◌, ◌%◌, ◌<◌, ◌≤◌, Bool, true, false, cond, eqb, ltb, ◌⊎◌, List, [], ◌∷◌, ◌++◌, length, take, drop, sym, refl, ap, ◌∙◌, subst, inl, inr, arith, length-append, Bor, le-ltb, lt-ltb, ne_eqb}
+use Rattle.std.proofs.Common.{◌≡◌, ℕ, ◌+◌, ◌*◌, ◌/◌, ◌%◌, ◌<◌, Bool, false, cond, eqb, ltb, ◌⊎◌, List, [], ◌∷◌, ◌++◌, length, take, drop, sym, refl, ap, ◌∙◌, subst, inl, inr, arith, length-append, Bor, le-ltb, lt-ltb, ne_eqb}
 use Rattle.std.proofs.lemmas.List.{take_at, drop_at}
 use Rattle.ledger.specs.declared.call.Call.TheVariants.{Collapse, Step, Split, Redo, Go}
 use Rattle.call_session.specs.declared.command.Command.{Command}
 use Rattle.call_session.specs.declared.command.Command.TheVariants.{Name, Vertex, Triangle, Open, Call, Write, End}
 use Rattle.call_session.specs.declared.command.Fault.{Fault}
 use Rattle.call_session.specs.declared.command.Fault.TheVariants as fault
-use Rattle.call_session.specs.Spelled.{word, spelled, stops, Unknown, Missing, no_count, short_name, short_vertex, short_triangle, no_gauge, short_collapse, short_go}
+use Rattle.call_session.specs.Spelled.{spelled, stops, Unknown, Missing, no_count, short_name, short_vertex, short_triangle, no_gauge, short_collapse, short_go}
 
 -- what stands at the front of some bytes
 pub data Front : Type 0 where

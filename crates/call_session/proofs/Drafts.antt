@@ -1,6 +1,6 @@
 -- Opening what is gathered, by the rules of the session.
-use Rattle.std.proofs.Common.{◌≡◌, ℕ, ◌<◌, ◌≤◌, Bool, length, sym, refl, ap, ◌∙◌, subst, arith}
-use Rattle.gathering.specs.Model.{positions, corners, surface_of, triangle_count}
+use Rattle.std.proofs.Common.{◌≡◌, Bool, length, sym, refl, subst, arith}
+use Rattle.gathering.specs.Model.{positions, corners, triangle_count}
 use Rattle.gathering.specs.declared.gathering.Gathering.{Gathering}
 use Rattle.judging.specs.Verdict.{Judged, Counted}
 use Rattle.judging.specs.declared.verdict.Counts.{Counts}
@@ -20,7 +20,7 @@ use Rattle.opened_surface.specs.declared.opened.opening.Why.{Why}
 use Rattle.opened_surface.specs.declared.opened.opening.Why.TheVariants as why
 use Rattle.call_session.specs.Back.{BackWith}
 use Rattle.call_session.specs.Gauges.{gauge_number, most_vertices}
-use Rattle.call_session.specs.Held.{Held, gathering, opened, held, Sound}
+use Rattle.call_session.specs.Held.{gathering, opened, held, Sound}
 use Rattle.call_session.specs.Replies as rule
 use Rattle.call_session.specs.Replies.{Replied, Refuses}
 use Rattle.call_session.specs.declared.command.Command.TheVariants.{Open}

@@ -1,5 +1,5 @@
 -- A command has one answer.
-use Rattle.std.proofs.Common.{◌≡◌, ℕ, ◌<◌, ◌≤◌, Bool, true, false, ◌⊎◌, List, [], ◌∷◌, ◌++◌, length, sym, refl, ap, ◌∙◌, subst, inl, inr, arith, Bor}
+use Rattle.std.proofs.Common.{◌≡◌, ℕ, Bool, ◌⊎◌, List, [], ◌∷◌, sym, refl, ap, ◌∙◌, subst, inl, inr, arith, Bor}
 use Rattle.judging.specs.Verdict.{Judged}
 use Rattle.geometry.specs.declared.Position.{Position}
 use Rattle.gathering.specs.declared.refusal.VertexRefusal.{VertexRefusal}
@@ -10,15 +10,14 @@ use Rattle.judging.specs.declared.verdict.Flaw.{Flaw}
 use Rattle.judging.specs.declared.verdict.Counts.{Counts}
 use Rattle.judging.specs.declared.verdict.Verdict.TheVariants.{Accepted, Refused as Broken}
 use Rattle.call_session.specs.Gauges.{gauge_number, most_vertices}
-use Rattle.call_session.specs.Held.{Held, gathering, opened}
+use Rattle.call_session.specs.Held.{Held, opened}
 use Rattle.ledger.specs.Book.{surface_now}
 use Rattle.opened_surface.specs.Openings.{first_book}
 use Rattle.opened_surface.specs.declared.opened.opening.OpenRefusal.TheVariants.{Flawed}
-use Rattle.call_session.specs.Lines.{Line, opened as opened_line, named, ended, refused}
+use Rattle.call_session.specs.Lines.{opened as opened_line, named, ended, refused}
 use Rattle.call_session.specs.Numbers.{number}
 use Rattle.call_session.specs.Replies as rule
 use Rattle.call_session.specs.Replies.{Replied, Refuses, Obeys, NameFits, NameRefused, VertexFits, VertexRefused, TriangleFits, TriangleRefused}
-use Rattle.call_session.specs.Session.{lines}
 use Rattle.call_session.specs.declared.command.Command.{Command}
 use Rattle.call_session.specs.declared.command.Command.TheVariants.{Name}
 use Rattle.call_session.specs.declared.gauge.Gauge.{Gauge}
@@ -26,7 +25,6 @@ use Rattle.call_session.specs.declared.gauge.Gauge.TheVariants.{Planes, Sweep}
 use Rattle.call_session.specs.declared.refusal.Refusal.{Refusal}
 use Rattle.call_session.specs.declared.refusal.Refusal.TheVariants as no
 use Rattle.call_session.specs.declared.reply.Reply.{Reply}
-use Rattle.call_session.specs.declared.reply.Reply.TheVariants.{Refused}
 use Rattle.call_session.proofs.Decoded.{Alike, names, same}
 use Rattle.call_session.proofs.CalledOnce.{Once, called_once}
 use Rattle.call_session.proofs.JudgedOnce.{judged_once, counted_once}

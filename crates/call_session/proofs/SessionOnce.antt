@@ -1,9 +1,8 @@
 -- A session has one list of lines.
-use Rattle.std.proofs.Common.{◌≡◌, ℕ, ◌+◌, ◌<◌, ◌≤◌, Bool, true, false, List, [], ◌∷◌, ◌++◌, length, sym, refl, ap, ◌∙◌, subst, arith}
-use Rattle.call_session.specs.Held.{Held, empty}
+use Rattle.std.proofs.Common.{◌≡◌, ℕ, ◌+◌, true, false, List, [], ◌∷◌, ◌++◌, length, sym, refl, ap, ◌∙◌, subst, arith}
+use Rattle.call_session.specs.Held.{Held}
 use Rattle.call_session.specs.Laws.{OneAnswer}
-use Rattle.call_session.specs.Lines.{Line, refused}
-use Rattle.call_session.specs.Numbers.{number}
+use Rattle.call_session.specs.Lines.{Line}
 use Rattle.call_session.specs.Replies.{Replied}
 use Rattle.call_session.specs.Session as session
 use Rattle.call_session.specs.Session.{Session, Answered, lines, fault_lines}
@@ -13,7 +12,7 @@ use Rattle.call_session.specs.declared.command.Command.TheVariants.{End}
 use Rattle.call_session.specs.declared.command.Fault.{Fault}
 use Rattle.call_session.specs.declared.command.Fault.TheVariants as fault
 use Rattle.call_session.specs.declared.reply.Reply.{Reply}
-use Rattle.call_session.proofs.Decoded.{Front, got, not, decoded, made, decoded_spelled, decoded_missing, decoded_unknown, Alike, alike, alike_spelled, alike_stops, rest_same}
+use Rattle.call_session.proofs.Decoded.{got, not, decoded, made, decoded_spelled, decoded_missing, decoded_unknown, Alike, alike, alike_spelled, alike_stops, rest_same}
 use Rattle.call_session.proofs.RepliedOnce.{replied_once, replied_alike}
 
 -- how the lines came about, by the front of the bytes

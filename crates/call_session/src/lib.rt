@@ -1,4 +1,6 @@
 //! A session: reads commands from bytes, obeys them on a gathering and then on the opened surface, and writes the lines of the answer.
+#![tactic(auto)]
+
 mod calling;
 mod command;
 mod draft;

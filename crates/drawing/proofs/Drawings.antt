@@ -1,5 +1,5 @@
 -- What was drawn, from what was written; e are the half-edges of the mesh m.
-use Rattle.std.proofs.Common.{◌≡◌, ℕ, ◌<◌, ◌≤◌, ◌⊎◌, List, [], length, vec_items, vec_len, sym, refl, ap, ◌∙◌, subst, inl, inr, arith}
+use Rattle.std.proofs.Common.{◌≡◌, ℕ, ◌<◌, ◌≤◌, ◌⊎◌, List, [], length, vec_items, vec_len, refl, ap, ◌∙◌, subst, inl, inr, arith}
 use Rattle.surface.specs.Euler.{vertices, triangles}
 use Rattle.mesh.specs.Model.{held, surface}
 use Rattle.mesh.specs.Laws.{vertex_slots, triangle_slots}

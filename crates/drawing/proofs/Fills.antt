@@ -1,9 +1,9 @@
 -- Entries written one after the other, each live one at its place.
-use Rattle.std.proofs.Common.{◌≡◌, ℕ, ◌+◌, ◌<◌, ◌≤◌, Bool, true, false, ◌≢◌, ◌⊎◌, List, length, get_or, set, sym, refl, ◌∙◌, subst, inl, inr, eq-or-lt_of_le, arith, get_or-set_other, get_or-set_same}
+use Rattle.std.proofs.Common.{◌≡◌, ℕ, ◌+◌, ◌<◌, ◌≤◌, Bool, true, false, ◌≢◌, List, length, get_or, set, sym, refl, ◌∙◌, subst, inl, inr, eq-or-lt_of_le, arith, get_or-set_other, get_or-set_same}
 use Rattle.std.proofs.lemmas.Bool.{both_ways}
 use Rattle.surface.specs.Euler.{count}
 use Rattle.drawing.specs.Drawn.{Filled}
-use Rattle.drawing.proofs.Counts.{count_zero, count_on, count_off, count_before}
+use Rattle.drawing.proofs.Counts.{count_on, count_off, count_before}
 
 module _ (X : Type 0) (f : ℕ → Bool) (R : ℕ → X → Type 0) (old : List X) where
   pub filled_none : Filled X f R 0 old old

@@ -1,5 +1,5 @@
 -- What was drawn fits, and so is not refused when it is gathered again.
-use Rattle.std.proofs.Common.{◌≡◌, ℕ, zero, suc, ◌+◌, ◌*◌, ◌<◌, ◌≤◌, true, ◌≢◌, List, [], ◌∷◌, length, get_or, take, Ok, Err, vec_items, Result, sym, refl, ap, ◌∙◌, subst, arith}
+use Rattle.std.proofs.Common.{◌≡◌, ℕ, zero, suc, ◌+◌, ◌*◌, ◌<◌, true, ◌≢◌, List, [], length, get_or, take, Ok, Err, Result, sym, ap, ◌∙◌, subst, arith}
 use Rattle.std.proofs.lemmas.List.{get_or-take, length-take-le}
 use Rattle.surface.specs.Surface.{Surface, Tri}
 use Rattle.surface.proofs.Tris.{spin, spin2, first_of}
@@ -12,7 +12,7 @@ use Rattle.mesh.specs.declared.mesh.Mesh.{Mesh}
 use Rattle.mesh.proofs.Round.{closed_held}
 use Rattle.drawing.specs.Points.{Placed}
 use Rattle.drawing.specs.Places.{place, triangle_place, corners_at}
-use Rattle.drawing.specs.Drawn.{Drawn, position_at}
+use Rattle.drawing.specs.Drawn.{Drawn}
 use Rattle.drawing.specs.Back.{TakenFrom, PointsFit, TrianglesFit, Regathers, ComesBack, ComesBackWhole, DrawnAndRegathered}
 use Rattle.drawing.specs.declared.point.Point.{Point}
 use Rattle.drawing.specs.declared.regathering.Unfit.{Unfit}

@@ -1,5 +1,5 @@
 -- The numbers of live triangles and vertices stand within the lists of the half-edges.
-use Rattle.std.proofs.Common.{◌≡◌, ℕ, ◌+◌, ◌*◌, ◌/◌, ◌<◌, ◌≤◌, true, List, [], ◌∷◌, length, get_or, vec_items, vec_len, sym, refl, ap, ◌∙◌, arith}
+use Rattle.std.proofs.Common.{◌≡◌, ℕ, ◌*◌, ◌/◌, ◌<◌, ◌≤◌, true, List, [], ◌∷◌, get_or, vec_items, vec_len, ap, ◌∙◌, arith}
 use Rattle.surface.specs.Surface.{next, prev}
 use Rattle.surface.specs.Read.{read}
 use Rattle.surface.proofs.Tris.{tri_at, next_triangle, second_is, third_is}

@@ -1,6 +1,5 @@
 -- A quarter of each number below 256, by one computed test.
-use Rattle.std.proofs.Common.{◌≡◌, ℕ, zero, suc, ◌+◌, ◌*◌, ◌<◌, ◌≤◌, Bool, true, false, not, ◌&&◌, T, eqb, ◌⊎◌, ℤ, pos, negsuc, sym, refl, ap, ◌∙◌, subst, inl, inr, eq-or-lt_of_le, arith, eqb→eq}
-use mathlib.Core.Bool.{beq}
+use Rattle.std.proofs.Common.{◌≡◌, ℕ, zero, suc, ◌*◌, ◌<◌, ◌≤◌, Bool, true, false, ◌&&◌, T, eqb, ℤ, pos, negsuc, sym, refl, ap, subst, inl, inr, eq-or-lt_of_le, arith, eqb→eq}
 use lib.Ieee.{Float, nan, inf, fin, binary32, mul, div, of_int, of_bits, to_unsigned, up, down}
 use lib.Ieee.Exact.{HasValue}
 use Rattle.drawing.specs.Points.{Quarter}

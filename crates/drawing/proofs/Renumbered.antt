@@ -1,8 +1,8 @@
 -- The triangles of a surface and those of the surface with its numbers closed up.
-use Rattle.std.proofs.Common.{◌≡◌, ℕ, ◌+◌, ◌*◌, ◌/◌, ◌%◌, ◌<◌, true, ltb, sym, refl, ap, ◌∙◌, arith}
+use Rattle.std.proofs.Common.{◌≡◌, ℕ, ◌+◌, ◌*◌, ◌/◌, ◌%◌, ◌<◌, true, sym, ap, ◌∙◌, arith}
 use Rattle.std.proofs.lemmas.Bool.{ltb-true, lt-ltb}
 use Rattle.surface.specs.Surface.{Surface, next, prev, Tri, Within}
-use Rattle.surface.specs.Euler.{count, vertices, triangles}
+use Rattle.surface.specs.Euler.{vertices, triangles}
 use Rattle.surface.proofs.Tris.{next_cases, next_triangle, tri_at, renumber, same_from, same_to, same_third}
 use Rattle.drawing.specs.Places.{place, triangle_place}
 use Rattle.drawing.specs.ClosedUp.{ClosedUp}

@@ -1,19 +1,19 @@
 -- What was drawn comes back when it is gathered.
-use Rattle.std.proofs.Common.{◌≡◌, ℕ, zero, suc, ◌+◌, ◌*◌, ◌/◌, ◌<◌, ◌≤◌, Bool, true, false, ltb, ◌⊎◌, List, [], ◌∷◌, length, get_or, replicate, vec_items, sym, refl, ap, ◌∙◌, subst, inl, inr, arith}
+use Rattle.std.proofs.Common.{◌≡◌, ℕ, zero, suc, ◌+◌, ◌*◌, ◌/◌, ◌<◌, true, false, ltb, List, [], ◌∷◌, length, get_or, replicate, vec_items, sym, refl, ap, ◌∙◌, inl, inr, arith}
 use lib.Ieee.{nan}
 use Rattle.std.proofs.lemmas.List.{get_or_past, get_or-replicate, length-replicate}
 use Rattle.std.proofs.lemmas.Bool.{cases_lt, lt-ltb, le-ltb}
-use Rattle.surface.specs.Surface.{Surface, Within}
+use Rattle.surface.specs.Surface.{Within}
 use Rattle.surface.specs.Read.{read}
-use Rattle.surface.specs.Euler.{vertices, triangles}
+use Rattle.surface.specs.Euler.{triangles}
 use Rattle.geometry.specs.declared.Position.{Position}
 use Rattle.geometry.specs.Values.{vector_of}
 use Rattle.gathering.specs.Model.{surface_of}
-use Rattle.mesh.specs.Model.{held, surface}
+use Rattle.mesh.specs.Model.{surface}
 use Rattle.mesh.specs.Laws.{vertex_slots, triangle_slots}
 use Rattle.mesh.specs.declared.mesh.Mesh.{Mesh}
 use Rattle.mesh.proofs.Round.{closed_held}
-use Rattle.drawing.specs.Places.{place, triangle_place, corners_at}
+use Rattle.drawing.specs.Places.{place, triangle_place}
 use Rattle.drawing.specs.Drawn.{Drawn, position_at}
 use Rattle.drawing.specs.ClosedUp.{ClosedUp}
 use Rattle.drawing.specs.Back.{TakenFrom, CameBack, CameBackWhole, DrawnBack}

@@ -1,14 +1,14 @@
 -- With its numbers closed up a closed surface is closed.
 use Rattle.std.proofs.Common.{◌≡◌, ℕ, true, sym, refl, ap, ◌∙◌, subst}
-use Rattle.surface.specs.Surface.{Surface, Tri, Side, Within}
+use Rattle.surface.specs.Surface.{Surface, Tri, Within}
 use Rattle.surface.specs.Closed.{Closed}
-use Rattle.surface.proofs.Tris.{spin, spin2, moved, renumber}
+use Rattle.surface.proofs.Tris.{spin, spin2, moved}
 use Rattle.surface.proofs.Sealed.{Sealed, Round, here, turn, round_at}
 use Rattle.surface.proofs.FromRings.{sealed}
 use Rattle.surface.proofs.ToRings.{closed}
 use Rattle.drawing.specs.Places.{place}
 use Rattle.drawing.specs.ClosedUp.{ClosedUp}
-use Rattle.drawing.proofs.Renumbered.{risen, Source, up, down, source_vertex, present_up, one_vertex}
+use Rattle.drawing.proofs.Renumbered.{risen, up, down, source_vertex, present_up, one_vertex}
 
 module _ {S N : Surface} {T V : ℕ} (W : Within S T V) (U : ClosedUp S N T V) (K : Sealed S) where
   -- corners at one place are one

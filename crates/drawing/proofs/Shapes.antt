@@ -1,19 +1,19 @@
 -- With its numbers closed up a surface keeps its counts, its pieces and its normals.
-use Rattle.std.proofs.Common.{◌≡◌, ℕ, ◌+◌, ◌*◌, ◌<◌, Bool, true, ltb, ◌↔◌, List, map, length, get_or, pos, ◌+ℤ◌, ◌-ℤ◌, sym, refl, ap, ◌∙◌, subst, arith}
+use Rattle.std.proofs.Common.{◌≡◌, ℕ, ◌+◌, ◌*◌, ◌<◌, Bool, true, ltb, map, get_or, sym, refl, ap, ◌∙◌, arith}
 use Rattle.std.proofs.lemmas.List.{length-map, get_or-map}
 use Rattle.std.proofs.lemmas.Bool.{ltb-true, lt-ltb}
 use Rattle.surface.specs.Surface.{Surface, Within}
 use Rattle.surface.specs.Closed.{Closed}
 use Rattle.surface.specs.Euler.{count, vertices, triangles, edges, euler}
 use Rattle.surface.specs.Pieces.{Chain, end, along, Pieces}
-use Rattle.surface.specs.Geometry.{Vector, normal, normal_at, null}
+use Rattle.surface.specs.Geometry.{Vector, normal}
 use Rattle.surface.proofs.Tris.{spin, spin2, moved, first_of}
 use Rattle.surface.proofs.Chains.{chain_from, chain_to}
 use Rattle.surface.proofs.Counting.{count_same, count_all}
 use Rattle.surface.proofs.Sides.{sides_counted}
 use Rattle.mesh.specs.Laws.{NoZeroNormal}
-use Rattle.drawing.specs.Places.{place, triangle_place}
-use Rattle.drawing.specs.ClosedUp.{ClosedUp, SamePoints, SameShape, ClosingUp}
+use Rattle.drawing.specs.Places.{place}
+use Rattle.drawing.specs.ClosedUp.{ClosedUp, SamePoints, ClosingUp}
 use Rattle.drawing.proofs.Counts.{nth}
 use Rattle.drawing.proofs.Renumbered.{up, down, source_triangle, source_live, source_place, source_vertex, present_up, one_vertex}
 use Rattle.drawing.proofs.Sealing.{closed_up}

@@ -1,4 +1,6 @@
 //! Drawing the live surface of a mesh into lent lists.
+#![tactic(auto)]
+
 ghost use Rattle.drawing.specs.Drawn.{Draws};
 
 use crate::places::{count_triangles, number_vertices};

@@ -1,4 +1,6 @@
 //! Worked examples, proved of the definitions that the calls are held to.
+#![tactic(auto)]
+
 ghost use Rattle.examples.specs.Examples.{Examples};
 
 /// The examples hold.

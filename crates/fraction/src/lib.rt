@@ -1,4 +1,6 @@
 //! Exact fractions: an amount of 64 bits over a divisor from 1 to 2,048, ranked by their value.
+#![tactic(auto)]
+
 ghost use Rattle.std.specs.Prelude.{◌≡◌, ◌/◌, Decides, MatchOption};
 ghost use Rattle.std.specs.Ordering.{MatchOrdering};
 ghost use Rattle.fraction.specs.Fractions.{AtMost, Below, Divides};

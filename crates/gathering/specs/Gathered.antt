@@ -1,7 +1,6 @@
 -- What one more vertex or triangle does to a gathering.
-use Rattle.std.specs.Prelude.{◌≡◌, ℕ, ◌*◌, ◌<◌, ◌≤◌, ◌≢◌, ◌⊎◌, List, [], ◌∷◌, ◌++◌, length, Ok, Err, Result}
+use Rattle.std.specs.Prelude.{◌≡◌, ℕ, ◌<◌, ◌≤◌, ◌≢◌, ◌⊎◌, [], ◌∷◌, ◌++◌, length, Ok, Err, Result}
 use Rattle.gathering.specs.declared.gathering.Gathering.{Gathering}
-use Rattle.geometry.specs.declared.Position.{Position}
 use Rattle.gathering.specs.declared.refusal.VertexRefusal.{VertexRefusal}
 use Rattle.gathering.specs.declared.refusal.VertexRefusal.TheVariants.{TooManyVertices, CoordinateAbove255}
 use Rattle.gathering.specs.declared.refusal.TriangleRefusal.{TriangleRefusal}

@@ -1,5 +1,5 @@
 -- What a gathering's lists keep to.
-use Rattle.std.specs.Prelude.{◌≡◌, ℕ, ◌<◌, ◌≢◌, List, length, slice_index}
+use Rattle.std.specs.Prelude.{ℕ, ◌<◌, ◌≢◌, List, length, slice_index}
 use Rattle.surface.specs.Surface.{next}
 
 -- each corner is one of the first n vertices

@@ -1,5 +1,5 @@
 -- Accounts of entries, one for each opened vertex.
-use Rattle.std.specs.Prelude.{◌≡◌, ℕ, ◌<◌, ◌≤◌, ◌≢◌, ◌⊎◌, List, length, slice_index_or, slice_set}
+use Rattle.std.specs.Prelude.{◌≡◌, ℕ, ◌<◌, ◌≤◌, ◌≢◌, ◌⊎◌, List, slice_index_or, slice_set}
 
 -- the account with op of the entries of u and of w for the entry of w; `blank` is only the default of the reads
 abbrev pub changed : {E : Type 0} → (E → E → E) → E → ℕ → ℕ → List E → List E

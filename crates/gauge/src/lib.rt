@@ -1,4 +1,6 @@
 //! Gauges: what puts a cost on a collapse.
+#![tactic(auto)]
+
 ghost use Rattle.std.specs.Prelude.{◌≡◌, ℕ, ◌<◌, ◌≤◌, Bool, true, List, length, Option, MatchOption, MatchResult, slice_index_or};
 ghost use Rattle.surface.specs.Surface.{Surface, Side};
 ghost use Rattle.surface.specs.Geometry.{Vector};

@@ -1,4 +1,6 @@
 //! Puts a cost on every side of an octahedron by both gauges, and merges and parts their entries.
+#![tactic(auto)]
+
 use anyhow::anyhow;
 use fraction::Fraction;
 use gathering::gathering::Gathering;

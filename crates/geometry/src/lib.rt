@@ -1,4 +1,6 @@
 //! Positions of vertices and the exact normals of triangles.
+#![tactic(auto)]
+
 ghost use Rattle.std.specs.Prelude.{◌≡◌, true, pos, ◌-ℤ◌, ◌*ℤ◌};
 ghost use Rattle.surface.specs.Geometry.{normal, null};
 ghost use Rattle.geometry.specs.Values.{Bounded, value_of, vector_of};

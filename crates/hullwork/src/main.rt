@@ -1,4 +1,6 @@
 //! Reads commands from the standard input, and writes the lines of the session to the standard output.
+#![tactic(auto)]
+
 ghost use Rattle.std.specs.Prelude.{◌≤◌, IfOk, vec_len};
 
 use session::run::run;

@@ -1,14 +1,14 @@
 -- Pairing the half-edges of one vertex after the other.
-use Rattle.std.proofs.Common.{◌≡◌, ℕ, zero, suc, ◌+◌, ◌%◌, ◌<◌, ◌≤◌, ◌≢◌, ◌⊎◌, List, [], ◌∷◌, length, get_or, set, Some, None, Option, sym, refl, ap, ◌∙◌, subst, inl, inr, arith, length-set}
+use Rattle.std.proofs.Common.{◌≡◌, ℕ, ◌+◌, ◌%◌, ◌<◌, ◌⊎◌, List, length, get_or, set, Some, None, Option, sym, ap, ◌∙◌, subst, inl, inr, arith, length-set}
 use native.Mathlib.Decide.{ℕ_discrete}
 use Rattle.std.proofs.lemmas.List.{get_or-set_same, get_or-set_other}
 use Rattle.std.proofs.lemmas.Bool.{cases_order}
 use Rattle.surface.specs.Surface.{next, prev}
-use Rattle.surface.proofs.Tris.{next_cases, next_third}
+use Rattle.surface.proofs.Tris.{next_third}
 use Rattle.gathering.specs.Limits.{Numbered}
 use Rattle.judging.specs.Chains.{Chained, Waiting, Standing}
 use Rattle.judging.specs.Sides.{LowestSide, Passed, BeginsBelow, Found, Paired}
-use Rattle.judging.proofs.Chains.{wait_start, wait_step, stand_start, stand_step}
+use Rattle.judging.proofs.Chains.{wait_start, wait_step}
 use Rattle.judging.proofs.Marks.{next_inside}
 
 found_fewer : {cs : List ℕ} {D E : ℕ → Type 0} {first twin : List (Option ℕ)} → Found cs D first twin → ((h : ℕ) → h < length cs → E h → D h) → Found cs E first twin

@@ -1,9 +1,9 @@
 -- Marking the ends of the half-edges that begin at one vertex.
-use Rattle.std.proofs.Common.{◌≡◌, ℕ, zero, suc, ◌+◌, ◌%◌, ◌<◌, ◌≤◌, ◌≢◌, ◌⊎◌, List, [], ◌∷◌, length, get_or, set, Some, None, Option, sym, refl, ap, ◌∙◌, subst, inl, inr, arith, length-set}
+use Rattle.std.proofs.Common.{◌≡◌, ℕ, suc, ◌%◌, ◌<◌, ◌≤◌, ◌≢◌, ◌⊎◌, List, length, get_or, set, Some, None, Option, sym, ◌∙◌, subst, inl, inr, arith}
 use native.Mathlib.Decide.{ℕ_discrete}
 use Rattle.std.proofs.lemmas.List.{get_or-set_same, get_or-set_other, get_or_past}
 use Rattle.std.proofs.lemmas.Bool.{cases_order, cases_lt}
-use Rattle.surface.specs.Surface.{next, prev}
+use Rattle.surface.specs.Surface.{next}
 use Rattle.surface.proofs.Tris.{next_cases}
 use Rattle.gathering.specs.Limits.{Numbered}
 use Rattle.judging.specs.Chains.{Chained, Waiting, Standing}

@@ -1,10 +1,10 @@
 -- What the paired half-edges say of the rules on sides.
-use Rattle.std.proofs.Common.{◌≡◌, ℕ, zero, suc, ◌+◌, ◌/◌, ◌%◌, ◌<◌, ◌≤◌, ◌≢◌, ◌⊎◌, List, [], ◌∷◌, length, get_or, Some, None, Option, sym, refl, ap, ◌∙◌, subst, inl, inr, arith}
+use Rattle.std.proofs.Common.{◌≡◌, ℕ, ◌+◌, ◌/◌, ◌%◌, ◌<◌, ◌≤◌, ◌⊎◌, List, length, get_or, Some, None, Option, sym, refl, ap, ◌∙◌, subst, inl, inr, arith}
 use native.Mathlib.Decide.{ℕ_discrete}
-use Rattle.surface.specs.Surface.{Surface, next, prev, Tri, Side}
-use Rattle.surface.specs.Closed.{Single, Matched}
+use Rattle.surface.specs.Surface.{next, prev, Tri, Side}
+use Rattle.surface.specs.Closed.{Single}
 use Rattle.surface.specs.Read.{whole}
-use Rattle.judging.specs.Flaws.{Lowest, Doubled, Unmet, FirstTwice, FirstUnmet}
+use Rattle.judging.specs.Flaws.{Doubled, FirstTwice, FirstUnmet}
 use Rattle.judging.specs.Sides.{Leads, LowestSide, Paired}
 use Rattle.judging.proofs.Whole.{whole_tri, tri_below}
 

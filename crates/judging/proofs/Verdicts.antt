@@ -1,9 +1,9 @@
 -- From the tests to the verdict.
-use Rattle.std.proofs.Common.{◌≡◌, ℕ, zero, suc, ◌+◌, ◌*◌, ◌/◌, ◌%◌, ◌<◌, ◌≤◌, Bool, true, false, eqb, List, [], ◌∷◌, length, get_or, pos, ◌+ℤ◌, ◌-ℤ◌, Some, None, sym, refl, ap, ◌∙◌, subst, arith}
+use Rattle.std.proofs.Common.{◌≡◌, ℕ, ◌*◌, ◌/◌, ◌%◌, ◌<◌, Bool, true, false, eqb, List, length, get_or, pos, ◌+ℤ◌, ◌-ℤ◌, Some, None, sym, ap, ◌∙◌, subst, arith}
 use Rattle.std.proofs.lemmas.Bool.{eqb-false}
-use Rattle.surface.specs.Surface.{Surface, next, prev, Tri, Side, Within}
+use Rattle.surface.specs.Surface.{Surface, next, prev, Within}
 use Rattle.surface.specs.Closed.{Closed}
-use Rattle.surface.specs.Euler.{count, vertices, triangles, edges, euler}
+use Rattle.surface.specs.Euler.{vertices, triangles, edges, euler}
 use Rattle.surface.specs.Geometry.{Vector}
 use Rattle.surface.specs.Pieces.{Pieces}
 use Rattle.surface.specs.Read.{whole}
@@ -14,7 +14,7 @@ use Rattle.judging.specs.Verdict.{Counted, FirstFlaw, JudgedSurface}
 use Rattle.judging.specs.declared.verdict.Flaw.{Flaw}
 use Rattle.judging.specs.declared.verdict.Flaw.TheVariants.{NoTriangle, SideTwice, SideUnmet, NoRing, ZeroNormal}
 use Rattle.judging.specs.declared.verdict.Counts.{Counts}
-use Rattle.judging.specs.declared.verdict.Verdict.TheVariants.{Accepted, Refused}
+use Rattle.judging.specs.declared.verdict.Verdict.TheVariants.{Refused}
 use Rattle.judging.proofs.Whole.{whole_tri, tri_below, whole_present, present_below, whole_alive, alive_below}
 
 pub refused : (S : Surface) (P : ℕ → Vector) (T V : ℕ) (f : Flaw) → 0 < T → FirstFlaw S P (Some f) → JudgedSurface S P T V (Refused f)

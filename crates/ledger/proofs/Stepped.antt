@@ -1,14 +1,13 @@
 -- Each step of what the ledger keeps was right.
-use Rattle.std.proofs.Common.{◌≡◌, ℕ, zero, suc, ◌<◌, ◌⊎◌, List, [], ◌∷◌, length, get_or, take, refl, subst, arith}
+use Rattle.std.proofs.Common.{zero, suc, List, refl, subst, arith}
 use Rattle.order.specs.declared.Ordered.{Ghosts as Order}
 use Rattle.gauge.specs.declared.Gauge.{Ghosts}
 use Rattle.ledger.specs.Book.{Book}
-use Rattle.ledger.specs.Choice.{First, InWords}
 use Rattle.ledger.specs.Ledger.{Entry, steps, none_permitted, Kept, none, next}
-use Rattle.ledger.specs.Stepped.{StepRight, StepAt, AllSteps, StepsRight}
+use Rattle.ledger.specs.Stepped.{StepRight, AllSteps}
 use Rattle.ledger.specs.Laws.{StepInWords}
 use Rattle.ledger.specs.declared.call.Call.{Call}
-use Rattle.ledger.specs.declared.call.Call.TheVariants.{Step, Split}
+use Rattle.ledger.specs.declared.call.Call.TheVariants.{Step}
 use Rattle.ledger.specs.declared.call.Answer.{Answer}
 
 module _ {G C E S : Type 0} (m : Ghosts G C E S) (o : Order C) (words : StepInWords m o) (s : S) where

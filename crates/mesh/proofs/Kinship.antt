@@ -1,5 +1,5 @@
 -- Along the log the surface stays closed, with one Euler number and one number of pieces.
-use Rattle.std.proofs.Common.{◌≡◌, ℕ, zero, suc, ◌/◌, ◌<◌, ◌≤◌, List, length, vec_items, sym, refl, ◌∙◌, subst, arith}
+use Rattle.std.proofs.Common.{ℕ, zero, suc, ◌≤◌, List, length, vec_items, sym, refl, ◌∙◌, subst, arith}
 use Rattle.surface.specs.Surface.{Surface, Within}
 use Rattle.surface.specs.Closed.{Closed}
 use Rattle.surface.specs.Geometry.{Vector}
@@ -10,7 +10,6 @@ use Rattle.surface.proofs.Thinned.{euler_kept}
 use Rattle.mesh.specs.Laws.{Kin, AlwaysKin, triangle_slots, vertex_slots}
 use Rattle.mesh.specs.Model.{opening, points}
 use Rattle.mesh.specs.Stages.{record_at, stage, AllPermitted}
-use Rattle.mesh.specs.declared.mesh.Mesh.{Mesh}
 use Rattle.mesh.specs.declared.record.Record.{Record}
 use Rattle.mesh.proofs.Along.{stage_closed, stage_within, whole_within}
 use Rattle.mesh.proofs.Meshes.{now_is}

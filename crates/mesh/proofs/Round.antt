@@ -11,7 +11,7 @@ use Rattle.mesh.specs.Model.{held}
 use Rattle.mesh.specs.declared.halfedges.HalfEdges.{HalfEdges}
 use Rattle.surface.proofs.Found.{closed_found}
 use Rattle.mesh.proofs.Reading.{alive_read, present_read, set_within, twin_turns}
-use Rattle.mesh.proofs.Laps.{steps, left, Turns, turn_one, Lap, lap_of, Walking, walk_start, walk_on, walk_end, walk_less}
+use Rattle.mesh.proofs.Laps.{left, Turns, turn_one, Lap, lap_of, Walking, walk_start, walk_on, walk_end, walk_less}
 
 pub closed_held : (e : HalfEdges) → Closed (held e)
 closed_held e = closed_found (held e) e.closed

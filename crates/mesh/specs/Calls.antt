@@ -1,5 +1,5 @@
 -- What the calls on a mesh answer and leave.
-use Rattle.std.specs.Prelude.{◌≡◌, ℕ, ◌+◌, ◌≤◌, [], ◌∷◌, ◌++◌, length, take, Some, None, Ok, Err, vec_items, Option, Result}
+use Rattle.std.specs.Prelude.{◌≡◌, ℕ, ◌+◌, ◌≤◌, [], ◌∷◌, ◌++◌, length, take, Some, None, Ok, Err, Option, Result}
 use Rattle.surface.specs.Permitted.{Permitted}
 use Rattle.mesh.specs.Model.{surface, points, log}
 use Rattle.mesh.specs.Moves.{SameOpening, Advanced}

@@ -1,5 +1,5 @@
 -- The surfaces along a log of collapses.
-use Rattle.std.specs.Prelude.{◌≡◌, ℕ, zero, suc, ◌<◌, List, length, slice_index_or}
+use Rattle.std.specs.Prelude.{ℕ, zero, suc, ◌<◌, List, length, slice_index_or}
 use Rattle.surface.specs.Surface.{Surface}
 use Rattle.surface.specs.Geometry.{Vector}
 use Rattle.surface.specs.Collapse.{collapse}

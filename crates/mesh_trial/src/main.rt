@@ -1,4 +1,6 @@
 //! Thins an octahedron, a torus and a tetrahedron, brings each back and thins it again.
+#![tactic(auto)]
+
 use anyhow::anyhow;
 use gathering::gathering::Gathering;
 use mesh::mesh::Mesh;

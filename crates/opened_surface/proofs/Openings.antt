@@ -1,9 +1,9 @@
 -- A mesh at the start of its log is tied to a gauge that was opened for it and a queue that was filled.
-use Rattle.std.proofs.Common.{◌≡◌, ℕ, ◌*◌, ◌<◌, ◌≤◌, [], length, replicate, None, Ok, Err, vec_items, vec_len, Option, Result, sym, refl, ap, ◌∙◌, subst, inl, arith, MatchResult}
+use Rattle.std.proofs.Common.{◌≡◌, ℕ, ◌*◌, ◌<◌, ◌≤◌, length, replicate, None, Ok, Err, vec_items, vec_len, Option, Result, sym, refl, ap, ◌∙◌, subst, inl, arith, MatchResult}
 use lib.ListN.{length-replicate}
 use Rattle.surface.specs.Surface.{Surface}
 use Rattle.surface.specs.Geometry.{Vector}
-use Rattle.gathering.specs.Model.{positions, corners, point_of, surface_of}
+use Rattle.gathering.specs.Model.{positions, corners, surface_of}
 use Rattle.gathering.specs.declared.gathering.Gathering.{Gathering}
 use Rattle.judging.specs.Verdict.{Judged, JudgedSurface}
 use Rattle.judging.specs.declared.verdict.Counts.{Counts}

@@ -1,5 +1,5 @@
 -- How many candidates have a key.
-use Rattle.std.proofs.Common.{◌≡◌, ℕ, zero, suc, ◌<◌, ◌≤◌, true, false, ◌≢◌, List, [], ◌∷◌, length, get_or, set, is_some, Some, None, vec_len, Option, sym, refl, ap, ◌∙◌, arith, length-set, get_or-set_other, get_or-set_same}
+use Rattle.std.proofs.Common.{◌≡◌, ℕ, zero, suc, ◌<◌, false, ◌≢◌, List, [], ◌∷◌, length, get_or, set, is_some, None, Option, sym, refl, ap, arith, length-set, get_or-set_other, get_or-set_same}
 use Rattle.std.proofs.lemmas.Bool.{both_ways}
 use Rattle.surface.specs.Euler.{count}
 use Rattle.surface.proofs.Counting.{count_less}

@@ -1,13 +1,11 @@
 -- What follows the ledger keeps the promise.
-use Rattle.std.proofs.Common.{◌≡◌, ℕ, List, [], ◌∷◌, sym, refl, ap, ◌∙◌, subst}
+use Rattle.std.proofs.Common.{◌≡◌, ℕ, List, [], ◌∷◌, sym, ap, ◌∙◌, subst}
 use Rattle.surface.specs.Surface.{Surface}
 use Rattle.surface.specs.Geometry.{Vector}
 use Rattle.judging.specs.Verdict.{JudgedSurface}
-use Rattle.judging.specs.declared.verdict.Counts.{Counts}
 use Rattle.judging.specs.declared.verdict.Verdict.TheVariants.{Accepted}
 use Rattle.mesh.specs.Laws.{Kin}
 use Rattle.mesh.specs.Model.{surface}
-use Rattle.mesh.specs.declared.mesh.Mesh.{Mesh}
 use Rattle.mesh.proofs.Kinship.{always_kin}
 use Rattle.mesh.proofs.Meshes.{now_is}
 use Rattle.order.specs.declared.Ordered.{Ghosts as Order}

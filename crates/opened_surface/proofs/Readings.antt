@@ -3,7 +3,6 @@ use Rattle.std.proofs.Common.{◌≡◌, ℕ, ◌<◌, length, get_or, Some, Non
 use Rattle.surface.specs.Surface.{Surface, Side}
 use Rattle.surface.specs.Geometry.{Vector}
 use Rattle.judging.specs.Verdict.{Counted}
-use Rattle.judging.specs.declared.verdict.Counts.{Counts}
 use Rattle.mesh.specs.Laws.{triangle_slots, vertex_slots}
 use Rattle.mesh.specs.Model.{surface, points, held}
 use Rattle.mesh.specs.declared.halfedges.HalfEdges.{HalfEdges}

@@ -1,6 +1,6 @@
 -- Vertices marked on a walk round a vertex.
-use Rattle.std.proofs.Common.{◌≡◌, ℕ, ◌<◌, true, ◌≢◌, ◌⊎◌, length, Some, None, sym, refl, ap, ◌∙◌, subst, inl, inr, arith}
-use Rattle.surface.specs.Surface.{Surface, next, Side}
+use Rattle.std.proofs.Common.{◌≡◌, ℕ, ◌<◌, true, ◌≢◌, length, Some, None, refl, ap, ◌∙◌, subst, inl, inr, arith}
+use Rattle.surface.specs.Surface.{next, Side}
 use Rattle.surface.proofs.Tris.{spin}
 use Rattle.mesh.specs.Model.{held, surface}
 use Rattle.mesh.specs.Reads.{Outgoing}

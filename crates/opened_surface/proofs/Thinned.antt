@@ -1,5 +1,5 @@
 -- An opened surface after calls keeps the promise from the surface as it was gathered.
-use Rattle.std.proofs.Common.{◌≡◌, List, sym, ◌∙◌, subst, subst₂}
+use Rattle.std.proofs.Common.{List, subst₂}
 use Rattle.gathering.specs.Model.{positions, corners}
 use Rattle.gathering.specs.declared.gathering.Gathering.{Gathering}
 use Rattle.order.specs.declared.Ordered.{Ghosts as Order}
@@ -8,7 +8,6 @@ use Rattle.ledger.specs.declared.call.Call.{Call}
 use Rattle.ledger.specs.declared.call.Answer.{Answer}
 use Rattle.opened_surface.specs.Openings.{first_book, OpenedWith}
 use Rattle.opened_surface.specs.Promise.{Promise, Ran}
-use Rattle.opened_surface.specs.Tied.{book_of}
 use Rattle.opened_surface.specs.declared.opened.Opened.{Opened}
 
 module _ {G C E Z : Type 0} (m : Ghosts G C E Z) (o : Order C) (g : Gathering) (gauge : G) (x y : Opened G C E Z) (calls : List Call) (answers : List (Answer C)) where

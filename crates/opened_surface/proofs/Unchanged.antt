@@ -1,5 +1,5 @@
 -- A refused call leaves surface, log, position and gauge as they were.
-use Rattle.std.proofs.Common.{◌≡◌, IfNone, IfErr, Some, None, Ok, Err, Option, Result, refl}
+use Rattle.std.proofs.Common.{◌≡◌, IfNone, IfErr, Some, None, Ok, Err, Option, Result}
 use Rattle.opened_surface.specs.Promise.{Untouched}
 use Rattle.opened_surface.specs.declared.opened.Opened.{Opened}
 

@@ -1,7 +1,7 @@
 -- Keys mended on a walk round a vertex.
-use Rattle.std.proofs.Common.{◌≡◌, ℕ, ◌/◌, ◌<◌, true, false, ◌≢◌, ◌⊎◌, List, length, get_or, is_some, Some, None, Option, sym, refl, ap, ◌∙◌, subst, inl, inr, arith}
+use Rattle.std.proofs.Common.{◌≡◌, ℕ, ◌/◌, ◌<◌, true, false, ◌≢◌, ◌⊎◌, List, length, get_or, is_some, Some, None, Option, sym, refl, ◌∙◌, subst, inl, inr, arith}
 use Rattle.std.proofs.lemmas.Bool.{both_ways}
-use Rattle.surface.specs.Surface.{Surface, next, Tri}
+use Rattle.surface.specs.Surface.{Surface, Tri}
 use Rattle.queue.specs.declared.keys.Key.{Key}
 use Rattle.mesh.specs.Held.{opposite}
 use Rattle.mesh.specs.Model.{held, surface, points}

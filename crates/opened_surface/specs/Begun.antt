@@ -1,5 +1,5 @@
 -- The parts of opening a gathered surface with a gauge.
-use Rattle.std.specs.Prelude.{◌≡◌, ◌*◌, ◌≤◌, length, replicate, None, vec_items, vec_len}
+use Rattle.std.specs.Prelude.{◌≡◌, ◌≤◌, length, replicate, None, vec_items, vec_len}
 use Rattle.gathering.specs.Model.{positions, corners}
 use Rattle.gathering.specs.declared.gathering.Gathering.{Gathering}
 use Rattle.judging.specs.Verdict.{Judged}

@@ -12,9 +12,7 @@ use Rattle.order.specs.declared.Ordered.{Ghosts as Order}
 use Rattle.gauge.specs.Numbers.{too_many_vertices_number}
 use Rattle.gauge.specs.declared.Gauge.{Ghosts}
 use Rattle.ledger.specs.Book.{Book}
-use Rattle.ledger.specs.declared.call.Call.{Call}
 use Rattle.opened_surface.specs.Consistent.{Consistent}
-use Rattle.opened_surface.specs.Promise.{Promise}
 use Rattle.opened_surface.specs.Tied.{book_of}
 use Rattle.opened_surface.specs.declared.opened.Opened.{Opened}
 use Rattle.opened_surface.specs.declared.opened.opening.OpenRefusal.{OpenRefusal}

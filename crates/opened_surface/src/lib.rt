@@ -1,4 +1,6 @@
 //! Thinning a surface along a queue of its collapses by cost, and taking every collapse back.
+#![tactic(auto)]
+
 mod calls;
 mod draining;
 mod going;

@@ -1,5 +1,7 @@
 //! Orders of costs: any two costs can be ranked, and nothing more is known of them. Two costs may rank
 //! equal and differ.
+#![tactic(auto)]
+
 ghost use Rattle.std.specs.Prelude.{◌≤◌, ◌⊎◌, Decides};
 ghost use Rattle.std.proofs.Common.{rules};
 

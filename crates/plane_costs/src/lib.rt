@@ -1,4 +1,6 @@
 //! What is promised, over and above, of a surface that was opened on the gauge by planes: each cost is an exact sum.
+#![tactic(auto)]
+
 ghost use Rattle.std.specs.Prelude.{IfSome, IfNone, IfOk, OnErr};
 ghost use Rattle.planes.specs.Meaning.{by_planes, whole_order};
 ghost use Rattle.ledger.specs.Stepped.{StepRight};

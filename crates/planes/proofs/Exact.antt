@@ -16,7 +16,7 @@ use Rattle.gauge.specs.Accounts.{changed}
 use Rattle.planes.specs.declared.quadric.Quadric.{Quadric}
 use Rattle.planes.specs.Quadrics as quadrics
 use Rattle.planes.specs.Quadrics.{plus, sum, at_point}
-use Rattle.planes.specs.Accounts.{quadric_at, gathered, opening, price}
+use Rattle.planes.specs.Accounts.{quadric_at, gathered, opening}
 use Rattle.planes.specs.Exact.{merged, standing, Stays, Orderly, Bytes, square_at, squares, ExactSum}
 use Rattle.planes.proofs.Values.{at_plus, at_zero, at_quadric}
 use Rattle.planes.proofs.Volumes.{volume_small}

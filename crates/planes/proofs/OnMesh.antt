@@ -1,13 +1,12 @@
 -- The done records of a mesh send each vertex away at most once, and none that is still live.
-use Rattle.std.proofs.Common.{◌≡◌, ℕ, suc, ◌/◌, ◌<◌, ◌≤◌, true, ◌≢◌, List, length, vec_items, vec_len, sym, subst, arith}
+use Rattle.std.proofs.Common.{◌≡◌, ℕ, suc, ◌/◌, ◌≤◌, true, List, length, vec_items, sym, subst, arith}
 use Rattle.surface.specs.Surface.{Surface, Within, Side}
 use Rattle.surface.specs.Closed.{Closed}
 use Rattle.surface.specs.Geometry.{Vector}
 use Rattle.surface.proofs.Collapse.{present_parts}
-use Rattle.surface.proofs.Found.{closed_found, permitted_found}
-use Rattle.mesh.specs.Model.{surface, opening, points}
+use Rattle.surface.proofs.Found.{permitted_found}
+use Rattle.mesh.specs.Model.{opening, points}
 use Rattle.mesh.specs.Stages.{stage, record_at, AllPermitted}
-use Rattle.mesh.specs.declared.mesh.Mesh.{Mesh}
 use Rattle.mesh.specs.declared.record.Record.{Record}
 use Rattle.mesh.proofs.Along.{stage_closed, stage_within, whole_within, present_down}
 use Rattle.mesh.proofs.Meshes.{now_is}

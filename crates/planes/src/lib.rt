@@ -1,5 +1,7 @@
 //! A gauge by planes: a collapse costs the squares of the six-volumes, at the point that it leads to, of the triangles whose
 //! corners stand at its two vertices.
+#![tactic(auto)]
+
 ghost use Rattle.planes.specs.Exact.{ExactOnMesh, ExactSum};
 
 pub mod planes;

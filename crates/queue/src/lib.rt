@@ -1,4 +1,6 @@
 //! A queue of candidates by number, each with a key or none, that tells the candidate of the least key.
+#![tactic(auto)]
+
 ghost use Rattle.std.specs.Prelude.{◌≡◌, ◌≤◌, vec_len};
 ghost use Rattle.queue.specs.Filled.{Filled};
 

@@ -1,4 +1,6 @@
 //! Gives, changes and takes away some thousand keys, and holds the queue's least to a plain search.
+#![tactic(auto)]
+
 ghost use Rattle.std.specs.Prelude.{◌≡◌, ℕ, ◌+◌, ◌<◌, ◌≤◌, true, false, IfOk, Decides, MatchOption, nat_lt};
 ghost use Rattle.queue.specs.Meaning.{Held, NoKeys};
 

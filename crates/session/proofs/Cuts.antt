@@ -1,9 +1,9 @@
 -- What stands at an offset, byte by byte.
-use Rattle.std.proofs.Common.{◌≡◌, ℕ, suc, ◌+◌, ◌-◌, ◌/◌, ◌%◌, ◌<◌, ◌≤◌, List, [], ◌∷◌, ◌++◌, length, get_or, take, drop, sym, refl, ap, ◌∙◌, subst, arith, length-drop, take-append-drop, length-take, Bor}
+use Rattle.std.proofs.Common.{◌≡◌, ℕ, ◌+◌, ◌-◌, ◌/◌, ◌%◌, ◌<◌, ◌≤◌, List, [], ◌∷◌, ◌++◌, length, get_or, take, drop, sym, refl, ap, ◌∙◌, arith, length-drop, take-append-drop, length-take, Bor}
 use Rattle.std.proofs.lemmas.List.{drop_more, drop-drop, drop_all}
 use Rattle.session.specs.declared.command.Command.{Command}
-use Rattle.session.specs.declared.command.Command.TheVariants.{Name, Vertex, Triangle, Open, Write, End}
-use Rattle.session.specs.Spelled.{word, spelled, Missing, no_count, short_name, short_vertex, short_triangle, no_gauge}
+use Rattle.session.specs.declared.command.Command.TheVariants.{Name, Open}
+use Rattle.session.specs.Spelled.{word, spelled, Missing, no_count, short_name, no_gauge}
 use Rattle.session.specs.Reading.{Read}
 
 -- two bytes that are a number of 16 bits

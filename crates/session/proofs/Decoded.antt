@@ -1,11 +1,11 @@
 -- A command and what follows it are known by the bytes.
-use Rattle.std.proofs.Common.{◌≡◌, ℕ, ◌+◌, ◌*◌, ◌/◌, ◌%◌, ◌<◌, ◌≤◌, Bool, true, false, cond, eqb, ltb, ◌⊎◌, List, [], ◌∷◌, ◌++◌, length, take, drop, sym, refl, ap, ◌∙◌, subst, inl, inr, arith, length-append, Bor, le-ltb, lt-ltb, ne_eqb}
+use Rattle.std.proofs.Common.{◌≡◌, ℕ, ◌+◌, ◌*◌, ◌/◌, ◌%◌, ◌<◌, Bool, false, cond, eqb, ltb, ◌⊎◌, List, [], ◌∷◌, ◌++◌, length, take, drop, sym, refl, ap, ◌∙◌, subst, inl, inr, arith, length-append, Bor, le-ltb, lt-ltb, ne_eqb}
 use Rattle.std.proofs.lemmas.List.{take_at, drop_at}
 use Rattle.session.specs.declared.command.Command.{Command}
 use Rattle.session.specs.declared.command.Command.TheVariants.{Name, Vertex, Triangle, Open, Write, End}
 use Rattle.session.specs.declared.command.Fault.{Fault}
 use Rattle.session.specs.declared.command.Fault.TheVariants as fault
-use Rattle.session.specs.Spelled.{word, spelled, stops, Unknown, Missing, no_count, short_name, short_vertex, short_triangle, no_gauge}
+use Rattle.session.specs.Spelled.{spelled, stops, Unknown, Missing, no_count, short_name, short_vertex, short_triangle, no_gauge}
 
 -- what stands at the front of some bytes
 pub data Front : Type 0 where

@@ -1,5 +1,5 @@
 -- A command has one answer.
-use Rattle.std.proofs.Common.{◌≡◌, ℕ, ◌<◌, ◌≤◌, Bool, true, false, ◌⊎◌, List, [], ◌∷◌, ◌++◌, length, sym, refl, ap, ◌∙◌, subst, inl, inr, arith, Bor}
+use Rattle.std.proofs.Common.{◌≡◌, ℕ, Bool, ◌⊎◌, List, [], ◌∷◌, sym, refl, ap, ◌∙◌, subst, inl, inr, arith, Bor}
 use Rattle.judging.specs.Verdict.{Judged}
 use Rattle.geometry.specs.declared.Position.{Position}
 use Rattle.gathering.specs.declared.refusal.VertexRefusal.{VertexRefusal}
@@ -10,8 +10,8 @@ use Rattle.judging.specs.declared.verdict.Flaw.{Flaw}
 use Rattle.judging.specs.declared.verdict.Counts.{Counts}
 use Rattle.judging.specs.declared.verdict.Verdict.TheVariants.{Accepted, Refused as Broken}
 use Rattle.session.specs.Gauges.{gauge_number, most_vertices}
-use Rattle.session.specs.Held.{Held, gathering, opened}
-use Rattle.session.specs.Lines.{Line, opened as opened_line, named, refused}
+use Rattle.session.specs.Held.{Held, opened}
+use Rattle.session.specs.Lines.{opened as opened_line, named, refused}
 use Rattle.session.specs.Numbers.{number}
 use Rattle.session.specs.Replies as rule
 use Rattle.session.specs.Replies.{Replied, Refuses, Obeys, NameFits, NameRefused, VertexFits, VertexRefused, TriangleFits, TriangleRefused}
@@ -23,7 +23,6 @@ use Rattle.session.specs.declared.gauge.Gauge.TheVariants.{Planes, Sweep}
 use Rattle.session.specs.declared.refusal.Refusal.{Refusal}
 use Rattle.session.specs.declared.refusal.Refusal.TheVariants as no
 use Rattle.session.specs.declared.reply.Reply.{Reply}
-use Rattle.session.specs.declared.reply.Reply.TheVariants.{Refused}
 use Rattle.session.proofs.Decoded.{Alike, names, same}
 use Rattle.session.proofs.JudgedOnce.{judged_once}
 

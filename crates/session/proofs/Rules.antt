@@ -1,5 +1,5 @@
 -- What the calls on a gathering answer, by the rules of the session.
-use Rattle.std.proofs.Common.{◌≡◌, ℕ, ◌<◌, ◌≤◌, Bool, true, false, ◌⊎◌, List, [], ◌∷◌, ◌++◌, length, Ok, Err, Result, sym, refl, ap, ◌∙◌, subst, inl, inr, Bor}
+use Rattle.std.proofs.Common.{◌≡◌, ℕ, ◌<◌, Bool, true, false, ◌⊎◌, List, length, Ok, Err, subst, inl, inr, Bor}
 use Rattle.gathering.specs.Gathered.{Unchanged, AddedVertex, AddedTriangle}
 use Rattle.gathering.specs.Model.{positions, corners}
 use Rattle.gathering.specs.declared.gathering.Gathering.{Gathering}

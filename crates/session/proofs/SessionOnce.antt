@@ -1,9 +1,8 @@
 -- A session has one list of lines.
-use Rattle.std.proofs.Common.{◌≡◌, ℕ, ◌+◌, ◌<◌, ◌≤◌, Bool, true, false, List, [], ◌∷◌, ◌++◌, length, sym, refl, ap, ◌∙◌, subst, arith}
-use Rattle.session.specs.Held.{Held, empty}
+use Rattle.std.proofs.Common.{◌≡◌, ℕ, ◌+◌, true, false, List, [], ◌∷◌, ◌++◌, length, sym, refl, ap, ◌∙◌, subst, arith}
+use Rattle.session.specs.Held.{Held}
 use Rattle.session.specs.Laws.{OneAnswer}
-use Rattle.session.specs.Lines.{Line, refused}
-use Rattle.session.specs.Numbers.{number}
+use Rattle.session.specs.Lines.{Line}
 use Rattle.session.specs.Replies.{Replied}
 use Rattle.session.specs.Session as session
 use Rattle.session.specs.Session.{Session, Answered, lines, fault_lines}
@@ -13,7 +12,7 @@ use Rattle.session.specs.declared.command.Command.TheVariants.{End}
 use Rattle.session.specs.declared.command.Fault.{Fault}
 use Rattle.session.specs.declared.command.Fault.TheVariants as fault
 use Rattle.session.specs.declared.reply.Reply.{Reply}
-use Rattle.session.proofs.Decoded.{Front, got, not, decoded, made, decoded_spelled, decoded_missing, decoded_unknown, Alike, alike, alike_spelled, alike_stops, rest_same}
+use Rattle.session.proofs.Decoded.{got, not, decoded, made, decoded_spelled, decoded_missing, decoded_unknown, Alike, alike, alike_spelled, alike_stops, rest_same}
 use Rattle.session.proofs.RepliedOnce.{replied_once, replied_alike}
 
 -- how the lines came about, by the front of the bytes

@@ -1,4 +1,6 @@
 //! What a closed surface of triangles is, what a collapse does to it, and the laws of both.
+#![tactic(auto)]
+
 ghost use Rattle.surface.specs.Laws.{LocalTest, SidesCounted, EulerKept, PiecesUnique, PiecesKept, NormalsKept};
 ghost use Rattle.surface.specs.Changes.{StarKept, PermittedLocal};
 

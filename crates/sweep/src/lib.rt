@@ -1,4 +1,6 @@
 //! A gauge by volume: a collapse costs the volume that it sweeps, over the number of triangles that it moves.
+#![tactic(auto)]
+
 ghost use Rattle.std.specs.Prelude.{◌≡◌, ◌≤◌, false, [], replicate, Decides, MatchResult};
 ghost use Rattle.std.proofs.lemmas.List.{length-replicate};
 ghost use Rattle.gauge.specs.Accounts.{TwoOf, NotTwoOf};

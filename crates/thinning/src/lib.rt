@@ -1,4 +1,6 @@
 //! Thinning a surface along a queue of its collapses by cost.
+#![tactic(auto)]
+
 mod calls;
 mod going;
 mod keys;

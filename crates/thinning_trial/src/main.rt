@@ -1,4 +1,6 @@
 //! Thins an octahedron on both gauges, by calls one at a time and by a list of them, draws it, and prints what is answered.
+#![tactic(auto)]
+
 use anyhow::anyhow;
 use drawing::point::Point;
 use gathering::gathering::Gathering;

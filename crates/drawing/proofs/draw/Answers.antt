@@ -1,4 +1,4 @@
-use Rattle.std.proofs.Common.{◌≡◌, ◌<◌, ◌≤◌, length, ◌∙◌, inl, inr, arith}
+use Rattle.std.proofs.Common.{◌∙◌, inl, inr}
 use Rattle.drawing.proofs.Drawings.{all_drawn, too_short}
 use Rattle.drawing.proofs.draw.Goals as goal
 use Rattle.drawing.proofs.draw.Goals.{then-points-vertex_count-via-then-points-vertex_count, then-points-vertex_count-via-else-points-vertex_count+then-triangles-triangle_count}

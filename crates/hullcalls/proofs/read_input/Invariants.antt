@@ -1,5 +1,5 @@
 use Rattle.std.proofs.Common.{◌≡◌, ◌-◌, ◌≤◌, length, vec_len}
-use Rattle.hullwork.proofs.read_input.Given as goal
+use Rattle.hullcalls.proofs.read_input.Given as goal
 
 abbrev pub invariant-loop-stdin : goal.invariant-loop-stdin
 invariant-loop-stdin l = (vec_len l.input ≤ 65537) × (length l.part ≡ 4096)

@@ -1,5 +1,4 @@
-use Rattle.std.proofs.Common.{◌≡◌, ◌+◌, ◌*◌, ◌/◌, ◌++◌, vec_items, vec_len, sym, refl, ap, ◌∙◌, arith}
-use Rattle.surface.proofs.Tris.{second_is, third_is}
+use Rattle.std.proofs.Common.{◌≡◌, ◌*◌, ◌/◌, ◌++◌, vec_items, vec_len, sym, ap, ◌∙◌, arith}
 use Rattle.mesh.specs.Model.{held}
 use Rattle.call_session.specs.Lines.{texts, triangle_lines}
 use Rattle.call_session.proofs.Written.{same_line, one_triangle, no_triangle}

@@ -1,4 +1,4 @@
-use Rattle.std.proofs.Common.{ℕ, ap, ◌∙◌, arith}
+use Rattle.std.proofs.Common.{ap, ◌∙◌, arith}
 use lib.Ieee.{Float, binary32, mul, to_unsigned}
 use Rattle.drawing.proofs.Quarters.{read_back, four}
 use Rattle.drawing.proofs.regathering.in_quarters.Goals as goal

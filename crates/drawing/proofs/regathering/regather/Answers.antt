@@ -1,4 +1,4 @@
-use Rattle.std.proofs.Common.{List, length, ap, ◌∙◌, subst}
+use Rattle.std.proofs.Common.{List, length, ap, ◌∙◌}
 use Rattle.geometry.specs.declared.Position.{Position}
 use Rattle.drawing.specs.Drawn.{position_at}
 use Rattle.drawing.proofs.regathering.regather.Goals as goal

@@ -1,7 +1,7 @@
-use Rattle.std.proofs.Common.{◌≡◌, ℕ, ◌+◌, ◌*◌, ◌/◌, ◌<◌, true, List, length, vec_len, sym, ap, ◌∙◌, subst, arith}
+use Rattle.std.proofs.Common.{◌≡◌, ℕ, ◌*◌, ◌/◌, List, length, vec_len, sym, ap, ◌∙◌, subst, arith}
 use Rattle.mesh.specs.Model.{held}
 use Rattle.mesh.specs.declared.halfedges.HalfEdges.{HalfEdges}
-use Rattle.drawing.specs.Places.{triangle_place, corners_at}
+use Rattle.drawing.specs.Places.{corners_at}
 use Rattle.drawing.specs.Drawn.{Cornered}
 use Rattle.drawing.proofs.Counts.{count_zero, count_most}
 use Rattle.drawing.proofs.Fills.{filled_none, turn_on, turn_off, place_room}

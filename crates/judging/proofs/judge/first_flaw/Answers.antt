@@ -1,4 +1,4 @@
-use Rattle.std.proofs.Common.{◌≡◌, ℕ, ◌<◌, ◌≤◌, List, length, get_or, None, Option, sym, ap, ◌∙◌, subst, arith}
+use Rattle.std.proofs.Common.{◌≡◌, ℕ, ◌<◌, List, length, get_or, None, Option, sym, ap, ◌∙◌, subst, arith}
 use Rattle.surface.specs.Surface.{next}
 use Rattle.surface.specs.Closed.{AllRinged}
 use Rattle.surface.specs.Read.{whole}

@@ -1,4 +1,3 @@
-use Rattle.std.proofs.Common.{true}
 use Rattle.queue.specs.Meaning.{keys_of}
 use Rattle.queue.specs.Sound.{Sound}
 use Rattle.opened_surface.proofs.Drained.{Draining}

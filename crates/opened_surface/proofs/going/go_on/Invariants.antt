@@ -1,4 +1,4 @@
-use Rattle.std.proofs.Common.{◌+◌, ◌-◌, ◌≤◌, length}
+use Rattle.std.proofs.Common.{◌+◌, ◌≤◌, length}
 use Rattle.mesh.specs.Model.{log}
 use Rattle.opened_surface.specs.Tied.{Placed, Tied}
 use Rattle.opened_surface.proofs.going.go_on.Given as goal

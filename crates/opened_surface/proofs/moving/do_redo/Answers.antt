@@ -1,4 +1,4 @@
-use Rattle.std.proofs.Common.{refl, arith}
+use Rattle.std.proofs.Common.{refl}
 use Rattle.opened_surface.proofs.Ties.{tied_grown}
 use Rattle.opened_surface.proofs.Outcomes.{unredone_follows, redone_follows}
 use Rattle.opened_surface.proofs.moving.do_redo.Goals as goal

@@ -1,5 +1,4 @@
-use Rattle.std.proofs.Common.{◌+◌, ◌-◌, ◌≤◌, length}
-use Rattle.mesh.specs.Model.{log}
+use Rattle.std.proofs.Common.{◌-◌, ◌≤◌}
 use Rattle.thinning.specs.Tied.{Placed, Tied}
 use Rattle.thinning.proofs.going.go_back.Given as goal
 

@@ -1,4 +1,4 @@
-use Rattle.std.proofs.Common.{refl, ◌∙◌, arith}
+use Rattle.std.proofs.Common.{refl, arith}
 use Rattle.std.proofs.lemmas.Result.{err_from_is_err_and}
 use Rattle.ledger.specs.declared.call.Call.TheVariants.{Step, Split, Redo}
 use Rattle.call_session.specs.declared.command.Command.TheVariants.{Vertex, Triangle, Call, Write, End}

@@ -1,4 +1,3 @@
-use Rattle.std.proofs.Common.{refl}
 use Rattle.std.proofs.lemmas.Result.{IfOk-weaker}
 use Rattle.planes.specs.Meaning.{by_planes, whole_order}
 use Rattle.call_session.specs.declared.gauge.Gauge.TheVariants.{Planes}

@@ -1,4 +1,3 @@
-use Rattle.std.proofs.Common.{refl}
 use Rattle.call_session.specs.Replies as rule
 use Rattle.call_session.proofs.Hulls.{hull_counted, hull_called}
 use Rattle.call_session.proofs.state.State.obey.Goals as goal

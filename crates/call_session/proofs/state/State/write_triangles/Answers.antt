@@ -1,9 +1,6 @@
-use Rattle.std.proofs.Common.{◌≡◌, ◌++◌, vec_items, vec_len, ap, ◌∙◌}
+use Rattle.std.proofs.Common.{◌++◌, vec_items, ap, ◌∙◌}
 use Rattle.std.proofs.lemmas.Result.{IfOk-weaker}
-use Rattle.mesh.specs.Model.{held as held_by}
-use Rattle.call_session.specs.Held.{hull_mesh}
-use Rattle.call_session.specs.Lines.{texts, triangle_lines}
-use Rattle.call_session.specs.Session.{held_lines}
+use Rattle.call_session.specs.Lines.{texts}
 use Rattle.call_session.proofs.Hulls.{hull_lines}
 use Rattle.call_session.proofs.state.State.write_triangles.Goals as goal
 

@@ -1,4 +1,4 @@
-use Rattle.std.proofs.Common.{◌≡◌, ℕ, ◌%◌, List, [], ◌∷◌, ◌++◌, length, vec_items, vec_len, sym, refl, ap, ◌∙◌, subst, arith}
+use Rattle.std.proofs.Common.{◌≡◌, ℕ, ◌%◌, List, [], ◌∷◌, ◌++◌, length, vec_items, vec_len, sym, refl, subst, arith}
 use Rattle.gathering.specs.Limits.{Numbered, Differing}
 use Rattle.gathering.proofs.Appended.{one_by_one, numbered_more, differing_more}
 use Rattle.gathering.proofs.gathering.Gathering.triangle.Goals as goal

@@ -1,4 +1,4 @@
-use Rattle.std.proofs.Common.{◌≡◌, ℕ, ◌<◌, length, get_or, None}
+use Rattle.std.proofs.Common.{length}
 use Rattle.judging.specs.Chains.{ChainedBelow}
 use Rattle.judging.proofs.judge.chains.chain.Given as goal
 

@@ -1,4 +1,4 @@
-use Rattle.std.proofs.Common.{◌≡◌, ℕ, ◌<◌, List, length, get_or, vec_items, vec_len, Option, sym, ap, ◌∙◌, subst, arith}
+use Rattle.std.proofs.Common.{◌≡◌, ℕ, ◌<◌, List, length, get_or, vec_len, Option, sym, ◌∙◌, subst}
 use Rattle.judging.specs.Chains.{Chained}
 use Rattle.judging.proofs.Floods.{carried}
 use Rattle.judging.proofs.Refilled.{blank_length, blank_entries, refilled}

@@ -1,4 +1,4 @@
-use Rattle.std.proofs.Common.{◌≡◌, ℕ, ◌<◌, Bool, true, false, not, length, get_or, is_some, Some, None, Option, refl, ap, ◌∙◌, subst, arith, below_more}
+use Rattle.std.proofs.Common.{◌≡◌, ℕ, true, false, not, get_or, is_some, Some, None, Option, refl, ap, ◌∙◌, arith, below_more}
 use Rattle.std.proofs.lemmas.Bool.{true≢false, false≢true}
 use Rattle.judging.proofs.Rules.{unmet_none, unmet_some}
 use Rattle.judging.proofs.judge.rules.first_unmet.Goals as goal

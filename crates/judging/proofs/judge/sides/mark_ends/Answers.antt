@@ -1,4 +1,4 @@
-use Rattle.std.proofs.Common.{◌≡◌, ℕ, ◌<◌, length, get_or, set, Some, None, Option, sym, subst, arith}
+use Rattle.std.proofs.Common.{ℕ, get_or, set, Some, None, Option, sym, subst, arith}
 use Rattle.judging.specs.Sides.{Marking}
 use Rattle.judging.proofs.Marks.{marking_start, marking_more, inside_next}
 use Rattle.judging.proofs.judge.sides.mark_ends.Goals as goal

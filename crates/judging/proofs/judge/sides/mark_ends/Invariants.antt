@@ -1,5 +1,4 @@
-use Rattle.std.proofs.Common.{◌≡◌, length}
-use Rattle.judging.specs.Chains.{Standing, below}
+use Rattle.judging.specs.Chains.{below}
 use Rattle.judging.specs.Sides.{Marking}
 use Rattle.judging.proofs.judge.sides.mark_ends.Given as goal
 

@@ -1,6 +1,5 @@
-use Rattle.std.proofs.Common.{◌≡◌, ℕ, ◌+◌, ◌<◌, length, get_or, set, Some, None, Option, sym, ap, ◌∙◌, subst, arith}
+use Rattle.std.proofs.Common.{◌≡◌, ℕ, length, get_or, set, Some, None, Option, sym, ap, ◌∙◌, subst, arith}
 use Rattle.surface.specs.Surface.{next, prev}
-use Rattle.judging.specs.Chains.{Standing}
 use Rattle.judging.specs.Sides.{Passed, Found, LowestSide}
 use Rattle.judging.proofs.Chains.{stand_start, stand_step}
 use Rattle.judging.proofs.Marks.{next_inside, inside_next, standing_at}

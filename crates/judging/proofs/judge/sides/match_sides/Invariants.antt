@@ -1,4 +1,3 @@
-use Rattle.std.proofs.Common.{◌≡◌, length}
 use Rattle.judging.specs.Chains.{Standing, below}
 use Rattle.judging.specs.Sides.{Passed, Found}
 use Rattle.judging.proofs.judge.sides.match_sides.Given as goal

@@ -1,4 +1,4 @@
-use Rattle.std.proofs.Common.{◌≡◌, ℕ, length, get_or, sym, subst, arith}
+use Rattle.std.proofs.Common.{◌≡◌, ℕ, length, subst, arith}
 use Rattle.judging.specs.Sides.{BeginsBelow, Found}
 use Rattle.judging.proofs.Marks.{marks_none}
 use Rattle.judging.proofs.Found.{found_none, found_all}

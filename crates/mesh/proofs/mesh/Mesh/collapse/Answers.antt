@@ -1,4 +1,4 @@
-use Rattle.std.proofs.Common.{◌≡◌, List, [], ◌∷◌, ◌++◌, take, ap, ◌∙◌}
+use Rattle.std.proofs.Common.{[], ◌∷◌, ◌++◌, take, ap, ◌∙◌}
 use Rattle.mesh.specs.Model.{held, points, log}
 use Rattle.mesh.specs.declared.record.Record.{Record}
 use Rattle.mesh.proofs.Calls.{permitted_along, record_is}

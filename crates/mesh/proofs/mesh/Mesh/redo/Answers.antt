@@ -1,4 +1,4 @@
-use Rattle.std.proofs.Common.{◌≡◌, ℕ, ◌<◌, vec_len, sym, ◌∙◌, subst, arith}
+use Rattle.std.proofs.Common.{◌<◌, vec_len, sym, ◌∙◌, subst, arith}
 use Rattle.surface.specs.Surface.{Side}
 use Rattle.mesh.specs.Model.{held}
 use Rattle.mesh.specs.declared.record.Record.{Record}

@@ -1,4 +1,4 @@
-use Rattle.std.proofs.Common.{refl, ◌∙◌, arith}
+use Rattle.std.proofs.Common.{refl, arith}
 use Rattle.std.proofs.lemmas.Result.{err_from_is_err_and}
 use Rattle.session.specs.declared.command.Command.TheVariants.{Vertex, Triangle, Write, End}
 use Rattle.session.specs.Spelled.{short_vertex, short_triangle}
