@@ -28,7 +28,7 @@ pub fn draw(
     let edges = mesh.edges();
     let mut places = [0; 1024];
     let vertex_count = number_vertices(edges, &mut places);
-    let triangle_count = usize::from(count_triangles(edges));
+    let triangle_count = count_triangles(edges);
     if points.len() < vertex_count || triangles.len() < triangle_count {
         return Err(TooShort);
     }

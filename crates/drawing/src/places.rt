@@ -45,14 +45,21 @@ pub fn count_vertices(edges: &HalfEdges) -> u16
 }
 
 /// How many triangles are live.
-pub fn count_triangles(edges: &HalfEdges) -> u16
+pub(crate) fn count_triangles(edges: &HalfEdges) -> usize
     ensures value { result ≡ triangle_place (held edges.now) (vec_len edges.now.triangles) }
 {
-    let mut count: u16 = 0;
+    let mut count = 0;
     for t in 0..edges.half_edge_count() / 3 {
         if edges.is_live((3 * t) as u16) {
             count += 1;
         }
     }
     count
+}
+
+/// How many triangles are live, in the width of the counts.
+pub fn live_triangles(edges: &HalfEdges) -> u16
+    ensures value { result ≡ triangle_place (held edges.now) (vec_len edges.now.triangles) }
+{
+    count_triangles(edges) as u16
 }

@@ -76,7 +76,7 @@ pub fn redraw(heap: Global, mesh: &Mesh) -> Result<Gathering, Unfit>
 {
     let edges = mesh.edges();
     let vertex_count = usize::from(count_vertices(edges));
-    let triangle_count = usize::from(count_triangles(edges));
+    let triangle_count = count_triangles(edges);
     let origin = Point {
         x: 0.0,
         y: 0.0,

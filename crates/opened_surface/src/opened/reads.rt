@@ -13,7 +13,7 @@ ghost use Rattle.opened_surface.specs.Tied.{book_of};
 
 use super::Opened;
 use drawing::draw;
-use drawing::places::{count_triangles, count_vertices};
+use drawing::places::{count_vertices, live_triangles};
 use drawing::point::Point;
 use drawing::refusal::TooShort;
 use drawing::regathering::{Unfit, redraw};
@@ -45,7 +45,7 @@ impl<G: Gauge> Opened<G> {
         let edges = self.mesh.edges();
         let mut counts = self.counts;
         counts.vertices = count_vertices(edges);
-        counts.triangles = count_triangles(edges);
+        counts.triangles = live_triangles(edges);
         counts
     }
 

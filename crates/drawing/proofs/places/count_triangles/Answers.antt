@@ -2,7 +2,7 @@ use Rattle.std.proofs.Common.{◌≡◌, ◌*◌, ◌/◌, vec_len, sym, ap, ◌
 use Rattle.mesh.specs.Model.{held}
 use Rattle.drawing.specs.Places.{triangle_place}
 use Rattle.drawing.proofs.Counts.{count_zero, count_on, count_off, count_most}
-use Rattle.drawing.proofs.Lows.{slots, few_triangles}
+use Rattle.drawing.proofs.Lows.{slots}
 use Rattle.drawing.proofs.places.count_triangles.Goals as goal
 use Rattle.drawing.proofs.places.count_triangles.Goals.{then-is_live, else-is_live}
 
@@ -12,8 +12,6 @@ loop-t-init c = sym (count_zero (held c.args.edges.now).alive)
 pub overflow_add-count : goal.overflow_add-count
 overflow_add-count c =
     let m = count_most (held c.args.edges.now).alive c.loop-t.t in
-    let f = few_triangles c.args.edges.now in
-    let s = slots c.args.edges.now in
     let i = c.loop-t.invariant in
     omega arith
 

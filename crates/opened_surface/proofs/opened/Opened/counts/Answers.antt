@@ -5,6 +5,6 @@ pub returns : goal.returns
 returns g c =
     record {
       counted = λ K.
-          counted_now g.G.Gauge g.G.Cost.Ordered c.args.self.now K c.edges-edges.result.now c.edges-edges.ensures.value c.count_vertices.result c.count_triangles.result
-          c.count_vertices.ensures.value c.count_triangles.ensures.value;
+          counted_now g.G.Gauge g.G.Cost.Ordered c.args.self.now K c.edges-edges.result.now c.edges-edges.ensures.value c.count_vertices.result c.live_triangles.result
+          c.count_vertices.ensures.value c.live_triangles.ensures.value;
     }
