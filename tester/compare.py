@@ -26,7 +26,7 @@ SECONDS = 120
 def arguments():
     """The arguments of the command line."""
     parser = argparse.ArgumentParser(description=__doc__.splitlines()[0])
-    parser.add_argument("program", help="the path of hullwork")
+    parser.add_argument("program", help="the path of hullcalls")
     parser.add_argument("--sessions", type=int, default=300, help="how many random sessions")
     parser.add_argument("--seed", type=int, default=1, help="where the random choices begin")
     parser.add_argument("--large", action="store_true", help="add surfaces of 1,000 vertices")

@@ -1,4 +1,4 @@
-"""A model of hullwork, from the bytes of its commands to the bytes of its replies.
+"""A model of hullcalls, from the bytes of its commands to the bytes of its replies.
 
 It is written from the rules in docs/ alone and shares nothing with the program.
 An opened surface is kept in one of two ways, which must always agree:

@@ -24,7 +24,7 @@ use Rattle.call_session.specs.Held.{gathering, opened, held, Sound}
 use Rattle.call_session.specs.Replies as rule
 use Rattle.call_session.specs.Replies.{Replied, Refuses}
 use Rattle.call_session.specs.declared.command.Command.TheVariants.{Open}
-use Rattle.call_session.specs.declared.gauge.Gauge.{Gauge}
+use Rattle.call_session.specs.declared.gauges.Gauge.{Gauge}
 use Rattle.call_session.specs.declared.refusal.Refusal.TheVariants as no
 use Rattle.call_session.specs.declared.reply.Reply.{Reply}
 use Rattle.call_session.specs.declared.reply.Reply.TheVariants as reply

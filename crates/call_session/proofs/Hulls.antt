@@ -16,7 +16,7 @@ use Rattle.call_session.specs.Lines.{triangle_lines}
 use Rattle.call_session.specs.Session.{held_lines}
 use Rattle.call_session.specs.Replies.{Replied, called}
 use Rattle.call_session.specs.declared.command.Command.TheVariants.{Call}
-use Rattle.call_session.specs.declared.gauge.Gauge.{Gauge}
+use Rattle.call_session.specs.declared.gauges.Gauge.{Gauge}
 use Rattle.call_session.specs.declared.hull.Hull.{Hull}
 use Rattle.call_session.specs.declared.reply.Reply.{Reply}
 

@@ -20,8 +20,8 @@ use Rattle.call_session.specs.Replies as rule
 use Rattle.call_session.specs.Replies.{Replied, Refuses, Obeys, NameFits, NameRefused, VertexFits, VertexRefused, TriangleFits, TriangleRefused}
 use Rattle.call_session.specs.declared.command.Command.{Command}
 use Rattle.call_session.specs.declared.command.Command.TheVariants.{Name}
-use Rattle.call_session.specs.declared.gauge.Gauge.{Gauge}
-use Rattle.call_session.specs.declared.gauge.Gauge.TheVariants.{Planes, Sweep}
+use Rattle.call_session.specs.declared.gauges.Gauge.{Gauge}
+use Rattle.call_session.specs.declared.gauges.Gauge.TheVariants.{Planes, Sweep}
 use Rattle.call_session.specs.declared.refusal.Refusal.{Refusal}
 use Rattle.call_session.specs.declared.refusal.Refusal.TheVariants as no
 use Rattle.call_session.specs.declared.reply.Reply.{Reply}

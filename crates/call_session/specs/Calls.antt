@@ -10,8 +10,8 @@ use Rattle.ledger.specs.declared.call.Answer.TheVariants as answer
 use Rattle.ledger.specs.declared.call.Refusal.{Refusal}
 use Rattle.planes.specs.Meaning.{by_planes, whole_order}
 use Rattle.sweep.specs.Meaning.{by_sweep, fraction_order}
-use Rattle.call_session.specs.declared.gauge.Gauge.{Gauge}
-use Rattle.call_session.specs.declared.gauge.Gauge.TheVariants.{Planes, Sweep}
+use Rattle.call_session.specs.declared.gauges.Gauge.{Gauge}
+use Rattle.call_session.specs.declared.gauges.Gauge.TheVariants.{Planes, Sweep}
 use Rattle.call_session.specs.declared.refusal.Refusal.TheVariants as no
 use Rattle.call_session.specs.declared.reply.Reply.{Reply}
 use Rattle.call_session.specs.declared.reply.Reply.TheVariants as reply

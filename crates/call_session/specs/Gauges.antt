@@ -1,7 +1,7 @@
 -- The gauges: the number of each, and the most vertices that it takes.
 use Rattle.std.specs.Prelude.{ℕ}
-use Rattle.call_session.specs.declared.gauge.Gauge.{Gauge}
-use Rattle.call_session.specs.declared.gauge.Gauge.TheVariants.{Planes, Sweep}
+use Rattle.call_session.specs.declared.gauges.Gauge.{Gauge}
+use Rattle.call_session.specs.declared.gauges.Gauge.TheVariants.{Planes, Sweep}
 
 abbrev pub gauge_number : Gauge → ℕ
 gauge_number Planes = 0

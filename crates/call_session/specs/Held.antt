@@ -9,8 +9,8 @@ use Rattle.opened_surface.specs.Tied.{book_of}
 use Rattle.planes.specs.Meaning.{by_planes, whole_order}
 use Rattle.sweep.specs.Meaning.{by_sweep, fraction_order}
 use Rattle.call_session.specs.declared.draft.Draft.{Draft}
-use Rattle.call_session.specs.declared.gauge.Gauge.{Gauge}
-use Rattle.call_session.specs.declared.gauge.Gauge.TheVariants as gauge
+use Rattle.call_session.specs.declared.gauges.Gauge.{Gauge}
+use Rattle.call_session.specs.declared.gauges.Gauge.TheVariants as gauge
 use Rattle.call_session.specs.declared.hull.Hull.{Hull}
 use Rattle.call_session.specs.declared.hull.Hull.TheVariants.{Planes, Sweep}
 use Rattle.call_session.specs.declared.state.State.{State}

@@ -21,7 +21,7 @@ use Rattle.call_session.specs.Gauges.{gauge_number, most_vertices}
 use Rattle.call_session.specs.Held.{Held, gathering, opened}
 use Rattle.call_session.specs.declared.command.Command.{Command}
 use Rattle.call_session.specs.declared.command.Command.TheVariants.{Name, Vertex, Triangle, Open, Call, Write, End}
-use Rattle.call_session.specs.declared.gauge.Gauge.{Gauge}
+use Rattle.call_session.specs.declared.gauges.Gauge.{Gauge}
 use Rattle.call_session.specs.declared.refusal.Refusal.{Refusal}
 use Rattle.call_session.specs.declared.refusal.Refusal.TheVariants as no
 use Rattle.call_session.specs.declared.reply.Reply.{Reply}

@@ -4,10 +4,10 @@ ghost use Rattle.call_session.specs.Back.{BackWith};
 ghost use Rattle.call_session.specs.Gauges.{gauge_number};
 ghost use Rattle.call_session.specs.Held.{held, held_draft, Sound};
 ghost use Rattle.call_session.specs.Replies.{Replied};
-ghost use Rattle.call_session.specs.declared.gauge.Gauge.TheVariants.{Planes as on_planes, Sweep as on_sweep};
+ghost use Rattle.call_session.specs.declared.gauges.Gauge.TheVariants.{Planes as on_planes, Sweep as on_sweep};
 ghost use Rattle.call_session.specs.declared.command.Command.TheVariants.{Name, Vertex, Triangle, Open};
 
-use crate::gauge::Gauge;
+use crate::gauges::Gauge;
 use crate::hull::Hull;
 use crate::refusal::Refusal;
 use crate::reply::Reply;

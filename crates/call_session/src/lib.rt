@@ -4,7 +4,7 @@
 mod calling;
 mod command;
 mod draft;
-mod gauge;
+mod gauges;
 mod hull;
 pub mod law;
 mod lines;

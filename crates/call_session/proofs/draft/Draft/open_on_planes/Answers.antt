@@ -1,6 +1,6 @@
 use Rattle.std.proofs.lemmas.Result.{IfOk-weaker}
 use Rattle.planes.specs.Meaning.{by_planes, whole_order}
-use Rattle.call_session.specs.declared.gauge.Gauge.TheVariants.{Planes}
+use Rattle.call_session.specs.declared.gauges.Gauge.TheVariants.{Planes}
 use Rattle.call_session.proofs.Drafts.{opened_replied, back_replied}
 use Rattle.call_session.proofs.draft.Draft.open_on_planes.Goals as goal
 

@@ -1,7 +1,7 @@
 use Rattle.std.proofs.Common.{refl}
 use Rattle.std.proofs.lemmas.Result.{IfOk-weaker}
 use Rattle.sweep.specs.Meaning.{by_sweep, fraction_order}
-use Rattle.call_session.specs.declared.gauge.Gauge.TheVariants.{Sweep}
+use Rattle.call_session.specs.declared.gauges.Gauge.TheVariants.{Sweep}
 use Rattle.call_session.proofs.Drafts.{opened_replied, back_replied}
 use Rattle.call_session.proofs.draft.Draft.open_on_sweep.Goals as goal
 
