@@ -2,7 +2,7 @@
 ghost use Rattle.std.specs.Prelude.{◌≡◌, ◌++◌, vec_len, OnOk};
 ghost use Rattle.mesh.specs.Model.{held};
 ghost use Rattle.call_session.specs.Lines.{text, texts, triangle_lines, named, opened, collapsed, stepped, split, redone, went, triangle, ended, refused};
-ghost use Rattle.call_session.specs.Numbers.{number as number_of_lem};
+ghost use Rattle.call_session.specs.Numbers.{number as number_of};
 ghost use Rattle.call_session.specs.Session.{fault_lines};
 
 use crate::command::Fault;
@@ -137,7 +137,7 @@ pub fn write_refused(
     refusal: Refusal,
     at: usize,
 ) -> Result<(), AllocError>
-    ensures written { OnOk result (out.new.items ≡ out.old.items ++ text (refused (number_of_lem refusal) at)) }
+    ensures written { OnOk result (out.new.items ≡ out.old.items ++ text (refused (number_of refusal) at)) }
 {
     let number = refusal.number();
     let line = format!(in heap; "refused {number} {at}\n")?;

@@ -1,6 +1,6 @@
 //! What a session refuses, and by which number.
 ghost use Rattle.std.specs.Prelude.{◌≡◌};
-ghost use Rattle.call_session.specs.Numbers.{number as number_of_lem};
+ghost use Rattle.call_session.specs.Numbers.{number as number_of};
 
 use gathering::refusal::{TriangleRefusal, VertexRefusal};
 use ledger::call;
@@ -33,7 +33,7 @@ pub enum Refusal {
 
 impl Refusal {
     pub fn number(self) -> u8
-        ensures value { result ≡ number_of_lem self }
+        ensures value { result ≡ number_of self }
     {
         match self {
             Refusal::Vertex(refusal) => refusal.number(),

@@ -5,7 +5,7 @@ ghost use Rattle.std.specs.Prelude.{◌≡◌, ◌/◌, Decides, MatchOption};
 ghost use Rattle.std.specs.Ordering.{MatchOrdering};
 ghost use Rattle.fraction.specs.Fractions.{AtMost, Below, Divides};
 ghost use Rattle.fraction.specs.Ranks;
-ghost use Rattle.std.proofs.Common.{rules, arith};
+ghost use Rattle.std.proofs.Common.{rules};
 
 use order::Ordered;
 use std::cmp::Ordering;
@@ -79,7 +79,7 @@ impl Ordered for Fraction {
 
     ghost total = { λ x y. Ranks.total x.amount x.divisor y.amount y.divisor };
 
-    ghost told = { first_of (Prim.search rules, Prim.grind (arith, Self.row.coded.inj)) };
+    ghost told = { Prim.search rules };
 
     ghost transitive = { λ x y z h k. Ranks.transitive x.amount x.divisor y.amount y.divisor z.amount z.divisor y.divides.0 h k };
 

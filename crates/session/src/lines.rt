@@ -2,7 +2,7 @@
 ghost use Rattle.std.specs.Prelude.{◌≡◌, ◌++◌, OnOk};
 ghost use Rattle.gathering.specs.Model.{triangle_count};
 ghost use Rattle.session.specs.Lines.{text, texts, triangle_lines, named, opened, triangle, ended, refused};
-ghost use Rattle.session.specs.Numbers.{number as number_of_lem};
+ghost use Rattle.session.specs.Numbers.{number as number_of};
 ghost use Rattle.session.specs.Session.{fault_lines};
 
 use crate::command::Fault;
@@ -86,7 +86,7 @@ pub fn write_refused(
     refusal: Refusal,
     at: usize,
 ) -> Result<(), AllocError>
-    ensures written { OnOk result (out.new.items ≡ out.old.items ++ text (refused (number_of_lem refusal) at)) }
+    ensures written { OnOk result (out.new.items ≡ out.old.items ++ text (refused (number_of refusal) at)) }
 {
     let number = refusal.number();
     let line = format!(in heap; "refused {number} {at}\n")?;

@@ -4,12 +4,11 @@ ghost use Rattle.mesh.specs.Model.{surface as surface_of, points as points_of};
 ghost use Rattle.geometry.specs.Values.{vector_of};
 ghost use Rattle.gauge.specs.Accounts.{TwoOf, NotTwoOf};
 ghost use Rattle.planes.specs.Quadrics.{zero, plus, minus, Sound};
-ghost use Rattle.planes.specs.Accounts.{opening as Opening-of, Gathered, price as price_of, gathered};
+ghost use Rattle.planes.specs.Accounts.{opening as opening_of, Gathered, price as price_of, gathered};
 ghost use Rattle.planes.specs.Model.{capacity as capacity_of, account as account_of};
 ghost use Rattle.std.proofs.lemmas.List.FromFn.{length-map-range_with_len};
 ghost use Rattle.planes.specs.AccountsLemmas.{opening_sound, plus_sound};
-ghost use borrow.Author.Rules.{rules};
-ghost use Rattle.std.proofs.Common.{arith};
+ghost use Rattle.std.proofs.Common.{rules};
 
 use super::Planes;
 use crate::quadric::{Quadric, quadric_of};
@@ -52,7 +51,7 @@ impl Gauge for Planes {
 
     ghost sound = { Sound };
 
-    ghost opening = { λ _ S P n. Opening-of S P n };
+    ghost opening = { λ _ S P n. opening_of S P n };
 
     ghost merged = { λ _ x y. plus y x };
 
@@ -74,7 +73,7 @@ impl Gauge for Planes {
 
     ghost back = { unfold plus minus in λ s x y p q. Prim.search rules };
 
-    ghost unseen = { first_of (Prim.search rules, Prim.grind (arith, Self.row.coded.inj)) };
+    ghost unseen = { Prim.search rules };
 
     fn is_blind() -> bool {
         true
