@@ -4,7 +4,8 @@
 usage: must_not_compile.py ROOT
 
 An edit has the lines 'file: PATH' (below the crate's folder), 'old: TEXT' (which stands once in that file), 'new: TEXT' and 'error: TEXT'.
-The crate is read and compiled by 'rt try', which proves nothing. Ends with status 1 where an edit is not refused so.
+The crate is read and compiled by 'rt try', which proves nothing; without the edit it has to run. Ends with status 1 where an edit is not
+refused so, where a crate does not run without its edits, or where there is no edit at all.
 """
 import os
 import shutil
@@ -34,33 +35,54 @@ def copy_crates(root, to):
                 shutil.copytree(folder, os.path.join(to, "crates", crate, part))
 
 
-def refused(root, crate, path):
-    """Whether the crate with this edit is refused with the error that the edit names, and what was said."""
+def try_crate(folder):
+    """Whether the crate in this folder compiles and runs, and what was said."""
+    run = subprocess.run(["rt", "try"], cwd=folder, capture_output=True, text=True, stdin=subprocess.DEVNULL)
+    return run.returncode == 0, run.stdout + run.stderr
+
+
+def refused(copy, crate, path):
+    """Whether the crate with this edit is refused with the error that the edit names, and what was said. The copy is left as it was."""
     file, old, new, error = read_edit(path)
-    with tempfile.TemporaryDirectory() as top:
-        copy = os.path.join(top, "copy")
-        copy_crates(root, copy)
-        target = os.path.join(copy, "crates", crate, file)
-        with open(target, encoding="utf-8") as f:
-            text = f.read()
-        if text.count(old) != 1:
-            return False, f"'{old}' stands {text.count(old)} times in {file}"
-        with open(target, "w", encoding="utf-8") as f:
-            f.write(text.replace(old, new))
-        run = subprocess.run(["rt", "try"], cwd=os.path.join(copy, "crates", crate), capture_output=True, text=True, stdin=subprocess.DEVNULL)
-        said = run.stdout + run.stderr
-        return run.returncode != 0 and error in said, said.strip()[-600:]
+    target = os.path.join(copy, "crates", crate, file)
+    with open(target, encoding="utf-8") as f:
+        text = f.read()
+    if text.count(old) != 1:
+        return False, f"'{old}' stands {text.count(old)} times in {file}"
+    with open(target, "w", encoding="utf-8") as f:
+        f.write(text.replace(old, new))
+    runs, said = try_crate(os.path.join(copy, "crates", crate))
+    with open(target, "w", encoding="utf-8") as f:
+        f.write(text)
+    return not runs and error in said, said.strip()[-600:]
+
+
+def try_edits(root, copy, crate):
+    """Tries the edits of a crate, and answers how many there are and how many are not as they must be."""
+    folder = os.path.join(root, "crates", crate, "must-not-compile")
+    names = sorted(os.listdir(folder)) if os.path.isdir(folder) else []
+    bad = 0
+    if names:
+        runs, said = try_crate(os.path.join(copy, "crates", crate))
+        if not runs:
+            print(f"must-not-compile {crate}: does not run without its edits: {said.strip()[-600:]}")
+            bad = 1
+    for name in names:
+        good, said = refused(copy, crate, os.path.join(folder, name))
+        bad += not good
+        print(f"must-not-compile {crate}/{name}: " + ("does not compile, as it must not" if good else f"NOT REFUSED as it must be: {said}"))
+    return len(names), bad
 
 
 def main(root):
-    bad = 0
-    for crate in sorted(os.listdir(os.path.join(root, "crates"))):
-        folder = os.path.join(root, "crates", crate, "must-not-compile")
-        for name in sorted(os.listdir(folder)) if os.path.isdir(folder) else []:
-            good, said = refused(root, crate, os.path.join(folder, name))
-            bad += not good
-            print(f"must-not-compile {crate}/{name}: " + ("does not compile, as it must not" if good else f"NOT REFUSED as it must be: {said}"))
-    return 1 if bad else 0
+    with tempfile.TemporaryDirectory() as top:
+        copy = os.path.join(top, "copy")
+        copy_crates(root, copy)
+        tried = [try_edits(root, copy, crate) for crate in sorted(os.listdir(os.path.join(root, "crates")))]
+    count = sum(n for n, _ in tried)
+    if count == 0:
+        print("must-not-compile: there is no edit to try")
+    return 1 if count == 0 or any(bad for _, bad in tried) else 0
 
 
 if __name__ == "__main__":

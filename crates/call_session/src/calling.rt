@@ -7,7 +7,7 @@ ghost use Rattle.opened_surface.specs.Consistent.{Consistent};
 
 use crate::refusal::Refusal;
 use crate::reply::Reply;
-use gauge::Gauge;
+use gauge::telling::TellingGauge;
 use ledger::call;
 use ledger::call::Call;
 use mesh::mesh::permits::CollapseRefusal;
@@ -25,7 +25,7 @@ fn refused_collapse(why: CollapseRefusal) -> Refusal
     }
 }
 
-fn collapse_reply<'a, G: Gauge>(
+fn collapse_reply<'a, G: TellingGauge>(
     u: u16,
     w: u16,
     outcome: Result<G::Cost, CollapseRefusal>,
@@ -46,7 +46,7 @@ fn collapse_reply<'a, G: Gauge>(
     }
 }
 
-fn step_reply<'a, G: Gauge>(outcome: Option<Key<G::Cost>>) -> Reply<'a>
+fn step_reply<'a, G: TellingGauge>(outcome: Option<Key<G::Cost>>) -> Reply<'a>
     ensures value { result ≡ step_reply G.Gauge outcome }
 {
     match outcome {
@@ -91,7 +91,7 @@ fn go_reply<'a>(target: usize, outcome: Option<usize>) -> Reply<'a>
 }
 
 /// Makes a call on an opened surface, and answers the reply to it.
-pub fn make_call<'a, G: Gauge>(opened: &mut Opened<G>, call: Call) -> Reply<'a>
+pub fn make_call<'a, G: TellingGauge>(opened: &mut Opened<G>, call: Call) -> Reply<'a>
     ensures replied { Consistent G.Gauge G.Cost.Ordered opened.old → CalledOn G.Gauge G.Cost.Ordered opened.old call result opened.new }
 {
     match call {

@@ -13,7 +13,7 @@ use Rattle.mesh.proofs.Round.{closed_held}
 use Rattle.drawing.specs.Points.{Placed}
 use Rattle.drawing.specs.Places.{place, triangle_place, corners_at}
 use Rattle.drawing.specs.Drawn.{Drawn}
-use Rattle.drawing.specs.Back.{TakenFrom, PointsFit, TrianglesFit, Regathers, ComesBack, ComesBackWhole, DrawnAndRegathered}
+use Rattle.drawing.specs.Back.{TakenFrom, PointsFit, TrianglesFit, Regathers, ComesBack, ComesBackWhole, DrawnAndRegathered, DrawnAndRegatheredWhole}
 use Rattle.drawing.specs.declared.point.Point.{Point}
 use Rattle.drawing.specs.declared.regathering.Unfit.{Unfit}
 use Rattle.drawing.specs.declared.regathering.Unfit.TheVariants.{NoMemory, Vertex, Triangle}
@@ -118,3 +118,6 @@ module _ (m : Mesh) (ps : List Point) (ts : List (List ℕ)) (a b : ℕ) (ps' : 
 
 pub drawn_and_regathered : DrawnAndRegathered
 drawn_and_regathered m ps ts a b ps' ts' D r G = comes_back m ps ts a b ps' ts' D r G
+
+pub drawn_and_regathered_whole : DrawnAndRegatheredWhole
+drawn_and_regathered_whole m ps ts a b ps' ts' D r G = comes_back_whole m ps ts a b ps' ts' D r G

@@ -16,7 +16,7 @@ use Rattle.mesh.proofs.Round.{closed_held}
 use Rattle.drawing.specs.Places.{place, triangle_place}
 use Rattle.drawing.specs.Drawn.{Drawn, position_at}
 use Rattle.drawing.specs.ClosedUp.{ClosedUp}
-use Rattle.drawing.specs.Back.{TakenFrom, CameBack, CameBackWhole, DrawnBack}
+use Rattle.drawing.specs.Back.{TakenFrom, CameBack, CameBackWhole, DrawnBack, DrawnBackWhole}
 use Rattle.drawing.specs.declared.point.Point.{Point}
 use Rattle.drawing.proofs.Counts.{count_before}
 use Rattle.drawing.proofs.Lows.{live_low, vertex_low, vertex_slots_lem, triangle_slots_lem}
@@ -87,3 +87,6 @@ module _ (m : Mesh) (ps : List Point) (ts : List (List ℕ)) (a b : ℕ) (ps' : 
 
 pub drawn_back : DrawnBack
 drawn_back m ps ts a b ps' ts' D qs cs G = came_back m ps ts a b ps' ts' D qs cs G
+
+pub drawn_back_whole : DrawnBackWhole
+drawn_back_whole m ps ts a b ps' ts' D qs cs G = came_back_whole m ps ts a b ps' ts' D qs cs G

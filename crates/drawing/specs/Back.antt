@@ -42,6 +42,12 @@ DrawnBack =
     (m : Mesh) (ps : List Point) (ts : List (List ℕ)) (a b : ℕ) (ps' : List Point) (ts' : List (List ℕ)) → Drawn m ps ts a b ps' ts' →
     (qs : List Position) (cs : List ℕ) → TakenFrom ps' ts' a b qs cs → CameBack m qs cs
 
+-- the same of the whole
+abbrev pub DrawnBackWhole : Type 0
+DrawnBackWhole =
+    (m : Mesh) (ps : List Point) (ts : List (List ℕ)) (a b : ℕ) (ps' : List Point) (ts' : List (List ℕ)) → Drawn m ps ts a b ps' ts' →
+    (qs : List Position) (cs : List ℕ) → TakenFrom ps' ts' a b qs cs → CameBackWhole m qs cs
+
 -- qs are the positions of the first n points
 pub record PointsTaken (ps : List Point) (n : ℕ) (qs : List Position) : Type 0 where
   pub many : length qs ≡ n
@@ -97,3 +103,8 @@ abbrev pub DrawnAndRegathered : Type 0
 DrawnAndRegathered =
     (m : Mesh) (ps : List Point) (ts : List (List ℕ)) (a b : ℕ) (ps' : List Point) (ts' : List (List ℕ)) → Drawn m ps ts a b ps' ts' →
     (r : Result Gathering Unfit) → Regathers (take a ps') (take b ts') r → ComesBack m r
+
+abbrev pub DrawnAndRegatheredWhole : Type 0
+DrawnAndRegatheredWhole =
+    (m : Mesh) (ps : List Point) (ts : List (List ℕ)) (a b : ℕ) (ps' : List Point) (ts' : List (List ℕ)) → Drawn m ps ts a b ps' ts' →
+    (r : Result Gathering Unfit) → Regathers (take a ps') (take b ts') r → ComesBackWhole m r

@@ -1,7 +1,7 @@
 //! Gauges: what puts a cost on a collapse.
 #![tactic(auto)]
 
-ghost use Rattle.std.specs.Prelude.{◌≡◌, ℕ, ◌<◌, ◌≤◌, Bool, true, List, length, Option, MatchOption, MatchResult, slice_index_or};
+ghost use Rattle.std.specs.Prelude.{◌≡◌, ℕ, ◌<◌, ◌≤◌, List, length, Option, MatchOption, MatchResult, slice_index_or};
 ghost use Rattle.surface.specs.Surface.{Surface, Side};
 ghost use Rattle.surface.specs.Geometry.{Vector};
 ghost use Rattle.mesh.specs.Model.{surface as surface_of, points as points_of};
@@ -11,6 +11,8 @@ ghost use Rattle.gauge.specs.Accounts.{changed, TwoOf, NotTwoOf};
 
 use mesh::mesh::Mesh;
 use order::Ordered;
+
+pub mod telling;
 
 /// There are more vertices than the gauge takes.
 #[derive(Clone, Copy)]
@@ -71,21 +73,10 @@ pub trait Gauge {
     /// The cost of collapsing u to w, from u, w, their entries, their points, and the live triangles at them.
     ghost price: { Self.Setting → ℕ → ℕ → Self.Entry → Self.Entry → Vector → Vector → (ℕ → Option Placed) → Self.Cost };
 
-    /// Whether a price rests on setting, entries and points alone, whatever the triangles are. A gauge need not say so.
-    ghost blind: { Bool };
-
     /// The figures of a cost.
     ghost amount: { Self.Cost → ℕ };
 
     ghost divisor: { Self.Cost → ℕ };
-
-    /// Whether the gauge says that its prices do not rest on the triangles.
-    fn is_blind() -> bool
-        ensures value { result ≡ blind };
-
-    /// How many vertices the gauge takes.
-    fn most_vertices(&self) -> usize
-        ensures value { result ≡ capacity self.now };
 
     /// Opens the account for a surface.
     fn open(&mut self, mesh: &Mesh) -> Result<(), TooManyVertices>
@@ -120,6 +111,4 @@ pub trait Gauge {
     ghost merged_sound: { (s : Self.Setting) (x y : Self.Entry) → sound x → sound y → sound (merged s x y) };
 
     ghost back: { (s : Self.Setting) (x y : Self.Entry) → sound x → sound y → parted s x (merged s x y) ≡ y };
-
-    ghost unseen: { blind ≡ true → (s : Self.Setting) (u w : ℕ) (x y : Self.Entry) (p q : Vector) (n k : ℕ → Option Placed) → price s u w x y p q n ≡ price s u w x y p q k };
 }

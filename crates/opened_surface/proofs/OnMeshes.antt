@@ -1,5 +1,5 @@
 -- The keys of a mesh before and after the collapse of u to w: a is the mesh before and b the one after, g and h are the gauge then.
-use Rattle.std.proofs.Common.{◌≡◌, ℕ, ◌*◌, ◌/◌, ◌≤◌, true, List, length, vec_items, vec_len, Option, sym, ◌∙◌, subst, arith}
+use Rattle.std.proofs.Common.{Bool, ◌≡◌, ℕ, ◌*◌, ◌/◌, ◌≤◌, true, List, length, vec_items, vec_len, Option, sym, ◌∙◌, subst, arith}
 use Rattle.surface.specs.Surface.{Surface, Tri, Side}
 use Rattle.surface.specs.Closed.{Closed}
 use Rattle.surface.specs.Collapse.{collapse}
@@ -27,10 +27,10 @@ all_below e t l =
     omega arith
 
 module _ {G C E Z : Type 0} (m : Ghosts G C E Z)
-    (unseen : m.blind ≡ true → (s : Z) (u w : ℕ) (x y : E) (p q : Vector) (n k : ℕ → Option Placed) → m.price s u w x y p q n ≡ m.price s u w x y p q k)
+    (blind : Bool) (unseen : blind ≡ true → (s : Z) (u w : ℕ) (x y : E) (p q : Vector) (n k : ℕ → Option Placed) → m.price s u w x y p q n ≡ m.price s u w x y p q k)
     (a b : Mesh) (g h : G) (u w : ℕ)
     (is : surface b ≡ collapse (surface a) u w) (placed : points b ≡ points a) (fixed : m.setting h ≡ m.setting g)
-    (but : SameBut m.blank w (m.account g) (m.account h)) (strong weak : Marks) (cover : Covered m (surface a) u w strong weak) (T : ℕ) (low : Below (surface a) T) where
+    (but : SameBut m.blank w (m.account g) (m.account h)) (strong weak : Marks) (cover : Covered blind (surface a) u w strong weak) (T : ℕ) (low : Below (surface a) T) where
   abbrev Keys : Type 0
   Keys = List (Option (Key C))
 
@@ -53,7 +53,7 @@ module _ {G C E Z : Type 0} (m : Ghosts G C E Z)
     collapse_keyed {e} {f} te tf K =
         at_b (Forward (e / 3) (f / 3))
         (λ x y.
-        keyed_after m unseen (points a) (m.setting g) (closed_held a.edges) (e, _, te) after_closed (m.account g) (m.account h) but strong weak cover T low one long three te tf K
+        keyed_after m blind unseen (points a) (m.setting g) (closed_held a.edges) (e, _, te) after_closed (m.account g) (m.account h) but strong weak cover T low one long three te tf K
         (both m (collapse (surface a) u w) (points a) (m.setting g) (m.account h) x y))
 
   module _ (keys : Keys) (long : 3 * T ≤ length keys) where
@@ -62,4 +62,4 @@ module _ {G C E Z : Type 0} (m : Ghosts G C E Z)
 
     -- after its undoing
     pub undo_keyed : Side (surface a) u w → KeyedBut m (surface b) (points b) (m.setting h) (m.account h) strong weak T keys → KeyedBut m (surface a) (points a) (m.setting g) (m.account g) strong weak T keys
-    undo_keyed s = at_b Back (keyed_before m unseen (points a) (m.setting g) (closed_held a.edges) s after_closed (m.account g) (m.account h) but strong weak cover T low keys long)
+    undo_keyed s = at_b Back (keyed_before m blind unseen (points a) (m.setting g) (closed_held a.edges) s after_closed (m.account g) (m.account h) but strong weak cover T low keys long)

@@ -1,5 +1,5 @@
 -- Vertices marked on a walk round a vertex.
-use Rattle.std.proofs.Common.{◌≡◌, ℕ, ◌<◌, true, ◌≢◌, length, Some, None, refl, ap, ◌∙◌, subst, inl, inr, arith}
+use Rattle.std.proofs.Common.{Bool, ◌≡◌, ℕ, ◌<◌, true, ◌≢◌, length, Some, None, refl, ap, ◌∙◌, subst, inl, inr, arith}
 use Rattle.surface.specs.Surface.{next, Side}
 use Rattle.surface.proofs.Tris.{spin}
 use Rattle.mesh.specs.Model.{held, surface}
@@ -86,7 +86,7 @@ module _ (mesh : Mesh) (how : Mending) (s : Stale) where
   none_round e same v O z (g, c, b) = subst (λ x. Outgoing (held x) v None) same O ((closed_held mesh.edges).known _ _ _ _ b)
 
 -- what a collapse asks for is marked: u, w, and the ring of u by one kind of mending
-module _ {G C E Z : Type 0} (m : Ghosts G C E Z) (mesh : Mesh) (u w : ℕ) (a b d e : Stale)
+module _ (blind : Bool) (mesh : Mesh) (u w : ℕ) (a b d e : Stale)
     (one : Grown a b) (two : Grown b d) (three : Grown d e) (from : u < length (repriced a) → Marked (repriced b) u) (to : w < length (repriced b) → Marked (repriced d) w) where
   pub all_grown : Grown a e
   all_grown = grown_then a d e (grown_then a b d one two) three
@@ -107,8 +107,8 @@ module _ {G C E Z : Type 0} (m : Ghosts G C E Z) (mesh : Mesh) (u w : ℕ) (a b 
     abbrev Round : Mending → Type 0
     Round how = (x : ℕ) → Side (surface mesh) u x → x < length (marks_of how d) → Marked (marks_of how e) x
 
-    pub covered_priced : Round Reprice → Covered m (surface mesh) u w (repriced e) (reopened e)
+    pub covered_priced : Round Reprice → Covered blind (surface mesh) u w (repriced e) (reopened e)
     covered_priced r = record { from = ends.0; to = ends.1; round = λ x t. inl (r x t (placed Reprice x t)) }
 
-    pub covered_opened : m.blind ≡ true → Round Reopen → Covered m (surface mesh) u w (repriced e) (reopened e)
+    pub covered_opened : blind ≡ true → Round Reopen → Covered blind (surface mesh) u w (repriced e) (reopened e)
     covered_opened b r = record { from = ends.0; to = ends.1; round = λ x t. inr (b, r x t (placed Reopen x t)) }

@@ -1,5 +1,5 @@
 -- Keys that a collapse and its undoing leave right, and what is to be mended after them.
-use Rattle.std.proofs.Common.{◌≡◌, ℕ, ◌*◌, ◌/◌, ◌<◌, ◌≤◌, true, false, ◌≢◌, ◌⊎◌, List, length, get_or, is_some, Some, None, Option, sym, refl, ap, ◌∙◌, subst, subst₂, inl, inr, arith, get_or-set_other}
+use Rattle.std.proofs.Common.{Bool, ◌≡◌, ℕ, ◌*◌, ◌/◌, ◌<◌, ◌≤◌, true, false, ◌≢◌, ◌⊎◌, List, length, get_or, is_some, Some, None, Option, sym, refl, ap, ◌∙◌, subst, subst₂, inl, inr, arith, get_or-set_other}
 use native.Mathlib.Decide.{ℕ_discrete}
 use Rattle.std.proofs.lemmas.Bool.{both_ways, cases_Bool}
 use Rattle.surface.specs.Surface.{Surface, next, prev, Tri, Side}
@@ -75,7 +75,7 @@ pub but_changed : {E : Type 0} (op : E → E → E) (blank : E) (u w : ℕ) (acc
 but_changed op blank u w acc x n = get_or-set_other acc w x _ blank n
 
 module _ {G C E Z : Type 0} (m : Ghosts G C E Z)
-    (unseen : m.blind ≡ true → (s : Z) (u w : ℕ) (x y : E) (p q : Vector) (n k : ℕ → Option Placed) → m.price s u w x y p q n ≡ m.price s u w x y p q k) (P : ℕ → Vector) (z : Z) where
+    (blind : Bool) (unseen : blind ≡ true → (s : Z) (u w : ℕ) (x y : E) (p q : Vector) (n k : ℕ → Option Placed) → m.price s u w x y p q n ≡ m.price s u w x y p q k) (P : ℕ → Vector) (z : Z) where
   -- a key is told from the stars, the entries and the points of its two vertices
   key_there : (S N : Surface) (acc acc' : List E) (x y : ℕ) → SameStar S N x → SameStar S N y →
       get_or acc x m.blank ≡ get_or acc' x m.blank → get_or acc y m.blank ≡ get_or acc' y m.blank → (k : Key C) → KeyFor m S P z acc x y k → KeyFor m N P z acc' x y k
@@ -104,7 +104,7 @@ module _ {G C E Z : Type 0} (m : Ghosts G C E Z)
   dead S N acc acc' h d e (Some k) (l, F) = absurd (both_ways _ d l)
 
   -- where prices do not rest on the triangles, it is told from the entries and the points alone
-  key_unseen : m.blind ≡ true → (S N : Surface) (acc acc' : List E) (x y p q : ℕ) → x ≡ p → y ≡ q → get_or acc p m.blank ≡ get_or acc' p m.blank → get_or acc q m.blank ≡ get_or acc' q m.blank →
+  key_unseen : blind ≡ true → (S N : Surface) (acc acc' : List E) (x y p q : ℕ) → x ≡ p → y ≡ q → get_or acc p m.blank ≡ get_or acc' p m.blank → get_or acc q m.blank ≡ get_or acc' q m.blank →
       (k : Key C) → KeyFor m S P z acc x y k → KeyFor m N P z acc' p q k
   key_unseen b S N acc acc' x y p q i j ex ey k F =
       let F' : KeyFor m S P z acc p q k = subst₂ (λ a c. KeyFor m S P z acc a c k) i j F in
@@ -112,7 +112,7 @@ module _ {G C E Z : Type 0} (m : Ghosts G C E Z)
 
   -- the collapse of u to w, where what it asks for is marked
   module _ {S : Surface} (K : Closed S) {u w : ℕ} (s : Side S u w) (L : Closed (collapse S u w)) (acc acc' : List E) (B : SameBut m.blank w acc acc')
-      (strong weak : Marks) (cover : Covered m S u w strong weak) (T : ℕ) (low : Below S T) where
+      (strong weak : Marks) (cover : Covered blind S u w strong weak) (T : ℕ) (low : Below S T) where
     abbrev Out : Surface
     Out = collapse S u w
 
@@ -130,7 +130,7 @@ module _ {G C E Z : Type 0} (m : Ghosts G C E Z)
     not_w p i = both_ways _ p (subst (Marked strong) (sym i) cover.to)
 
     -- and if it is beside u, it is to be opened again, and prices do not rest on the triangles
-    opens : {x : ℕ} → is_some (get_or strong x None) ≡ false → Beside S u x → (m.blind ≡ true) × Marked weak x
+    opens : {x : ℕ} → is_some (get_or strong x None) ≡ false → Beside S u x → (blind ≡ true) × Marked weak x
     opens p (inl i) = absurd (not_u p i)
     opens {x} p (inr r) = elim (cover.round x r) [ inl q ↦ absurd (both_ways _ p q) | inr q ↦ q ]
 
@@ -183,7 +183,7 @@ module _ {G C E Z : Type 0} (m : Ghosts G C E Z)
               | inr (inr (i, (v, g))) ↦ inr (inr (i, (l, opened_was g)))
             ]
 
-        near_after : m.blind ≡ true → Marked weak (Out.corner h) ⊎ Marked weak (Out.corner (next h)) → (r : Option (Key C)) → k ≡ r → After h r
+        near_after : blind ≡ true → Marked weak (Out.corner h) ⊎ Marked weak (Out.corner (next h)) → (r : Option (Key C)) → k ≡ r → After h r
         near_after b o None i = inr (inr (refl, (l, o)))
         near_after b o (Some r) i = elim (subst (Before h) i R) [
           | inl (v, F) ↦ inl (l, key_unseen b S Out acc acc' _ _ _ _ first_was second_was (B _ (not_w p)) (B _ (not_w q)) r F)
@@ -230,7 +230,7 @@ module _ {G C E Z : Type 0} (m : Ghosts G C E Z)
               | inr (inr (i, (v, g))) ↦ inr (inr (i, (l, opened_stays v g)))
             ]
 
-        near_before : m.blind ≡ true → Marked weak (S.corner h) ⊎ Marked weak (S.corner (next h)) → (r : Option (Key C)) → k ≡ r → Before h r
+        near_before : blind ≡ true → Marked weak (S.corner h) ⊎ Marked weak (S.corner (next h)) → (r : Option (Key C)) → k ≡ r → Before h r
         near_before b o None i = inr (inr (refl, (l, o)))
         near_before b o (Some r) i = elim (subst (After h) i R) [
           | inl (v, F) ↦ inl (l, key_unseen b Out S acc' acc _ _ _ _ (first_stays v) (second_stays v) (sym (B _ (not_w p))) (sym (B _ (not_w q))) r F)

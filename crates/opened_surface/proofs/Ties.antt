@@ -1,5 +1,5 @@
 -- All stays tied along a collapse and its undoing.
-use Rattle.std.proofs.Common.{◌≡◌, ℕ, ◌/◌, ◌<◌, true, List, length, get_or, Ok, Err, vec_items, vec_len, Option, Result, sym, ap, ◌∙◌, subst, inl, inr, arith, MatchResult}
+use Rattle.std.proofs.Common.{Bool, ◌≡◌, ℕ, ◌/◌, ◌<◌, true, List, length, get_or, Ok, Err, vec_items, vec_len, Option, Result, sym, ap, ◌∙◌, subst, inl, inr, arith, MatchResult}
 use Rattle.surface.specs.Surface.{Surface, Side}
 use Rattle.surface.specs.Geometry.{Vector}
 use Rattle.gathering.specs.Model.{point_of}
@@ -71,9 +71,9 @@ module _ {G C E Z : Type 0} (m : Ghosts G C E Z) (o : Order C)
   pub accounted_by : (mesh : Mesh) (g : G) → m.account g ≡ account_now m (m.setting g) (book_of mesh) → Accounted m mesh g
   accounted_by mesh g i = ap length i ∙ account_long m long begun grows back (m.setting g) (book_of mesh) mesh.position
 
-  module _ (unseen : m.blind ≡ true → (s : Z) (u w : ℕ) (x y : E) (p q : Vector) (n k : ℕ → Option Placed) → m.price s u w x y p q n ≡ m.price s u w x y p q k) where
+  module _ (blind : Bool) (unseen : blind ≡ true → (s : Z) (u w : ℕ) (x y : E) (p q : Vector) (n k : ℕ → Option Placed) → m.price s u w x y p q n ≡ m.price s u w x y p q k) where
     -- after a collapse; s has what it asks for
-    module _ (a b : Mesh) (g h : G) (p q r : Queue C) (s : Stale) (u w e f : ℕ) (J : Joined m a u w e f b) (cover : Covered m (surface a) u w (repriced s) (reopened s)) (K : Tied m o a g p s)
+    module _ (a b : Mesh) (g h : G) (p q r : Queue C) (s : Stale) (u w e f : ℕ) (J : Joined m a u w e f b) (cover : Covered blind (surface a) u w (repriced s) (reopened s)) (K : Tied m o a g p s)
         (fixed : m.setting h ≡ m.setting g) (R : Result Unit NoPair) (M : Changes m.account (m.merged (m.setting g)) m.blank u w g R h) where
       merged_is : m.account h ≡ changed (m.merged (m.setting g)) m.blank u w (m.account g)
       merged_is = done m.account (m.merged (m.setting g)) m.blank u w (length (vec_items a.positions)) g R h M (accounted_by a g K.account) J.two
@@ -97,7 +97,7 @@ module _ {G C E Z : Type 0} (m : Ghosts G C E Z) (o : Order C)
           let l = K.long in
           let T = vec_len a.edges.triangles in
           let keyed =
-          collapse_keyed m unseen a b g h u w J.surface_next (ap point_of J.opening_same.positions_same) fixed but (repriced s) (reopened s) cover T (all_below a.edges)
+          collapse_keyed m blind unseen a b g h u w J.surface_next (ap point_of J.opening_same.positions_same) fixed but (repriced s) (reopened s) cover T (all_below a.edges)
           (keys_of p) (keys_of q) (keys_of r) (omega arith) J.astride.there.1 J.astride.back.1 K.keyed (y A) (z A) in
           record {
             account = now_account;
@@ -132,7 +132,7 @@ module _ {G C E Z : Type 0} (m : Ghosts G C E Z) (o : Order C)
       sized : Sized a s
       sized = (K.sized.0 ∙ ap length J.opening_same.positions_same, K.sized.1 ∙ ap length J.opening_same.positions_same)
 
-      pub part_tied : (Sized a s → Side (surface a) u w → Covered m (surface a) u w (repriced t) (reopened t)) → Tied m o a g p t
+      pub part_tied : (Sized a s → Side (surface a) u w → Covered blind (surface a) u w (repriced t) (reopened t)) → Tied m o a g p t
       part_tied covers =
           let many = same_many a b J.opening_same in
           let l = K.long in
@@ -142,7 +142,7 @@ module _ {G C E Z : Type 0} (m : Ghosts G C E Z) (o : Order C)
             account = back_account;
             long = omega arith;
             keyed =
-                undo_keyed m unseen a b g h u w J.surface_next (ap point_of J.opening_same.positions_same) (sym fixed) but_back (repriced t) (reopened t) (covers sized side) T (all_below a.edges)
+                undo_keyed m blind unseen a b g h u w J.surface_next (ap point_of J.opening_same.positions_same) (sym fixed) but_back (repriced t) (reopened t) (covers sized side) T (all_below a.edges)
                 (keys_of p) (omega arith) side (grown_keyed m (surface b) (points b) (m.setting h) (m.account h) s t grown T (keys_of p) keyed);
             sound = K.sound;
             sized = (grown.price_long ∙ sized.0, grown.open_long ∙ sized.1);

@@ -1,6 +1,6 @@
 -- Vertices at which keys may be wrong until the next step: those that are to be priced again, and those at which half-edges that have no
 -- key are to be priced.
-use Rattle.std.specs.Prelude.{◌≡◌, ℕ, ◌*◌, ◌<◌, true, ◌⊎◌, List, length, None, vec_items, Option, slice_index_or}
+use Rattle.std.specs.Prelude.{◌≡◌, ℕ, ◌*◌, ◌<◌, Bool, true, ◌⊎◌, List, length, None, vec_items, Option, slice_index_or}
 use Rattle.surface.specs.Surface.{Surface, Side}
 use Rattle.surface.specs.Geometry.{Vector}
 use Rattle.mesh.specs.declared.mesh.Mesh.{Mesh}
@@ -29,10 +29,10 @@ KeyedBut m S P setting account strong weak T keys = (h : ℕ) → h < 3 * T → 
 
 -- what the collapse of u to w, and its undoing, ask for: u and w are to be priced again, and so are the neighbours of u; where prices do
 -- not rest on the triangles, the neighbours are only to be opened again
-pub record Covered {G C E Z : Type 0} (m : Ghosts G C E Z) (S : Surface) (u w : ℕ) (strong weak : Marks) : Type 0 where
+pub record Covered (blind : Bool) (S : Surface) (u w : ℕ) (strong weak : Marks) : Type 0 where
   pub from : Marked strong u
   pub to : Marked strong w
-  pub round : (x : ℕ) → Side S u x → Marked strong x ⊎ ((m.blind ≡ true) × Marked weak x)
+  pub round : (x : ℕ) → Side S u x → Marked strong x ⊎ ((blind ≡ true) × Marked weak x)
 
 -- the members stay, and there may be more
 pub record Grown (s t : Stale) : Type 0 where

@@ -7,7 +7,7 @@ use crate::going::do_go;
 use crate::moving::{do_collapse, do_redo, do_split};
 use crate::stale::Stale;
 use crate::stepping::do_step;
-use gauge::Gauge;
+use gauge::telling::TellingGauge;
 use ledger::call::{Answer, Call, Refusal};
 use mesh::mesh::Mesh;
 use mesh::mesh::permits::CollapseRefusal;
@@ -70,7 +70,7 @@ fn go_answer<C>(r: Option<usize>) -> Answer<C>
 }
 
 /// Makes one call.
-pub(crate) fn one<G: Gauge>(
+pub(crate) fn one<G: TellingGauge>(
     mesh: &mut Mesh,
     gauge: &mut G,
     queue: &mut Queue<G::Cost>,
@@ -89,7 +89,7 @@ pub(crate) fn one<G: Gauge>(
 }
 
 /// Makes the calls in turn, and puts their answers into a list that has room for them.
-pub(crate) fn run_all<G: Gauge>(
+pub(crate) fn run_all<G: TellingGauge>(
     mesh: &mut Mesh,
     gauge: &mut G,
     queue: &mut Queue<G::Cost>,

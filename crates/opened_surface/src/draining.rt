@@ -8,12 +8,12 @@ ghost use Rattle.opened_surface.specs.Mending.{Accounted, Fit, MendedNow};
 
 use crate::keys::Mending;
 use crate::mending::mend_vertex;
-use gauge::Gauge;
+use gauge::telling::TellingGauge;
 use mesh::mesh::Mesh;
 use queue::Queue;
 
 /// Mends the keys of the half-edges that begin or end at a member, and empties the set.
-pub(crate) fn drain<G: Gauge>(
+pub(crate) fn drain<G: TellingGauge>(
     mesh: &Mesh,
     gauge: &G,
     queue: &mut Queue<G::Cost>,

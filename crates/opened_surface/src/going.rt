@@ -7,12 +7,12 @@ ghost use Rattle.opened_surface.specs.Tied.{Follows, Placed, PlacedBy, Tied};
 
 use crate::moving::{do_redo, do_split};
 use crate::stale::Stale;
-use gauge::Gauge;
+use gauge::telling::TellingGauge;
 use mesh::mesh::Mesh;
 use queue::Queue;
 
 /// Takes the last `count` collapses back.
-fn go_back<G: Gauge>(mesh: &mut Mesh, gauge: &mut G, stale: &mut Stale, count: usize)
+fn go_back<G: TellingGauge>(mesh: &mut Mesh, gauge: &mut G, stale: &mut Stale, count: usize)
     ensures placed { count ≤ mesh.old.position → PlacedBy G.Gauge G.Cost.Ordered mesh.old gauge.old stale.old (mesh.old.position - count) mesh.new gauge.new stale.new }
 {
     for _ in 0..count {
@@ -21,7 +21,7 @@ fn go_back<G: Gauge>(mesh: &mut Mesh, gauge: &mut G, stale: &mut Stale, count: u
 }
 
 /// Does the next `count` collapses again.
-fn go_on<G: Gauge>(
+fn go_on<G: TellingGauge>(
     mesh: &mut Mesh,
     gauge: &mut G,
     queue: &mut Queue<G::Cost>,
@@ -36,7 +36,7 @@ fn go_on<G: Gauge>(
 }
 
 /// Goes to the position `target`, if the log has it, and answers how many moves that took.
-pub(crate) fn do_go<G: Gauge>(
+pub(crate) fn do_go<G: TellingGauge>(
     mesh: &mut Mesh,
     gauge: &mut G,
     queue: &mut Queue<G::Cost>,

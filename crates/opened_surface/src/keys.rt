@@ -3,7 +3,7 @@ ghost use Rattle.queue.specs.Meaning.{keys_of};
 ghost use Rattle.queue.specs.Sound.{Sound};
 ghost use Rattle.opened_surface.specs.Mending.{Accounted, Fit, KeyNow, Refreshed};
 
-use gauge::Gauge;
+use gauge::telling::TellingGauge;
 use mesh::mesh::Mesh;
 use queue::{Key, Queue};
 
@@ -17,7 +17,7 @@ pub(crate) enum Mending {
 }
 
 /// The key of the half-edge `h`, if it is live.
-pub(crate) fn key_of<G: Gauge>(mesh: &Mesh, gauge: &G, h: u16) -> Option<Key<G::Cost>>
+pub(crate) fn key_of<G: TellingGauge>(mesh: &Mesh, gauge: &G, h: u16) -> Option<Key<G::Cost>>
     ensures right { Accounted G.Gauge mesh.now gauge.now → KeyNow G.Gauge mesh.now gauge.now h result }
 {
     let edges = mesh.edges();
@@ -33,7 +33,7 @@ pub(crate) fn key_of<G: Gauge>(mesh: &Mesh, gauge: &G, h: u16) -> Option<Key<G::
 }
 
 /// Gives the half-edge `h` its key, or takes its key away.
-pub(crate) fn refresh<G: Gauge>(
+pub(crate) fn refresh<G: TellingGauge>(
     mesh: &Mesh,
     gauge: &G,
     queue: &mut Queue<G::Cost>,

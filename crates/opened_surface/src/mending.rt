@@ -6,12 +6,18 @@ ghost use Rattle.queue.specs.Sound.{Sound};
 ghost use Rattle.opened_surface.specs.Mending.{Accounted, Fit, KeyedNow, MendedNow, Touches};
 
 use crate::keys::{Mending, refresh};
-use gauge::Gauge;
+use gauge::telling::TellingGauge;
 use mesh::mesh::Mesh;
 use queue::Queue;
 
 /// Mends the keys of the half-edges from `first` on and before `end`.
-fn mend_range<G: Gauge>(mesh: &Mesh, gauge: &G, queue: &mut Queue<G::Cost>, first: u16, end: u16)
+fn mend_range<G: TellingGauge>(
+    mesh: &Mesh,
+    gauge: &G,
+    queue: &mut Queue<G::Cost>,
+    first: u16,
+    end: u16,
+)
     ensures mended { Accounted G.Gauge mesh.now gauge.now → MendedNow G.Gauge mesh.now gauge.now (λ h. (first ≤ h) × (h < end)) (keys_of queue.old) (keys_of queue.new) }
     ensures sound { Sound G.Cost.Ordered queue.old → Sound G.Cost.Ordered queue.new }
 {
@@ -21,7 +27,7 @@ fn mend_range<G: Gauge>(mesh: &Mesh, gauge: &G, queue: &mut Queue<G::Cost>, firs
 }
 
 /// Gives each half-edge its key.
-pub(crate) fn fill<G: Gauge>(mesh: &Mesh, gauge: &G, queue: &mut Queue<G::Cost>)
+pub(crate) fn fill<G: TellingGauge>(mesh: &Mesh, gauge: &G, queue: &mut Queue<G::Cost>)
     ensures keyed { Accounted G.Gauge mesh.now gauge.now → 3 * vec_len mesh.now.edges.triangles ≤ length (keys_of queue.old) → KeyedNow G.Gauge mesh.now gauge.now (vec_len mesh.now.edges.triangles) (keys_of queue.new) }
     ensures long { Accounted G.Gauge mesh.now gauge.now → length (keys_of queue.new) ≡ length (keys_of queue.old) }
     ensures sound { Sound G.Cost.Ordered queue.old → Sound G.Cost.Ordered queue.new }
@@ -31,7 +37,7 @@ pub(crate) fn fill<G: Gauge>(mesh: &Mesh, gauge: &G, queue: &mut Queue<G::Cost>)
 }
 
 /// Mends the keys of the half-edges that begin or end at the vertex `x`.
-pub(crate) fn mend_vertex<G: Gauge>(
+pub(crate) fn mend_vertex<G: TellingGauge>(
     mesh: &Mesh,
     gauge: &G,
     queue: &mut Queue<G::Cost>,
@@ -57,7 +63,12 @@ pub(crate) fn mend_vertex<G: Gauge>(
 }
 
 /// Mends the keys of the three half-edges of triangle `t`.
-pub(crate) fn mend_triangle<G: Gauge>(mesh: &Mesh, gauge: &G, queue: &mut Queue<G::Cost>, t: u16)
+pub(crate) fn mend_triangle<G: TellingGauge>(
+    mesh: &Mesh,
+    gauge: &G,
+    queue: &mut Queue<G::Cost>,
+    t: u16,
+)
     requires few { t < 2048 }
     ensures mended { Accounted G.Gauge mesh.now gauge.now → MendedNow G.Gauge mesh.now gauge.now (λ h. h / 3 ≡ t) (keys_of queue.old) (keys_of queue.new) }
     ensures sound { Sound G.Cost.Ordered queue.old → Sound G.Cost.Ordered queue.new }

@@ -13,7 +13,7 @@ ghost use Rattle.opened_surface.specs.declared.stale.Stale.{Stale as A-stale};
 use crate::mending::mend_triangle;
 use crate::stale::Stale;
 use crate::stale::marking::mark_around;
-use gauge::Gauge;
+use gauge::telling::TellingGauge;
 use mesh::mesh::Mesh;
 use mesh::mesh::permits::CollapseRefusal;
 use mesh::record::Record;
@@ -31,7 +31,7 @@ fn astride(mesh: &Mesh, u: u16, w: u16) -> Option<(u16, u16)>
 
 /// Follows a collapse of `u` to `w` that the mesh has done: merges the entries and takes the keys of the two dead triangles away.
 /// `e` led from `u` to `w`, and `f` back.
-fn join<G: Gauge>(
+fn join<G: TellingGauge>(
     mesh: &Mesh,
     gauge: &mut G,
     queue: &mut Queue<G::Cost>,
@@ -41,7 +41,7 @@ fn join<G: Gauge>(
     f: u16,
 )
     requires few { (e < 6144) × (f < 6144) }
-    ensures tied { (a : A-mesh) (s : A-stale) → Joined G.Gauge a u w e f mesh.now → Covered G.Gauge (surface_of a) u w (repriced s) (reopened s) → Tied G.Gauge G.Cost.Ordered a gauge.old queue.old s → Tied G.Gauge G.Cost.Ordered mesh.now gauge.new queue.new s }
+    ensures tied { (a : A-mesh) (s : A-stale) → Joined G.Gauge a u w e f mesh.now → Covered G.blind (surface_of a) u w (repriced s) (reopened s) → Tied G.Gauge G.Cost.Ordered a gauge.old queue.old s → Tied G.Gauge G.Cost.Ordered mesh.now gauge.new queue.new s }
     ensures fixed { G.setting gauge.new ≡ G.setting gauge.old }
 {
     let _ = gauge.merge(u, w);
@@ -51,7 +51,7 @@ fn join<G: Gauge>(
 
 /// Collapses `u` to `w` where that is permitted, and answers what it cost just before. If it is not, vertices are made stale for
 /// nothing.
-pub(crate) fn perform<G: Gauge>(
+pub(crate) fn perform<G: TellingGauge>(
     mesh: &mut Mesh,
     gauge: &mut G,
     queue: &mut Queue<G::Cost>,
@@ -77,7 +77,7 @@ pub(crate) fn perform<G: Gauge>(
 }
 
 /// Collapses `u` to `w` where that is permitted, and answers what it cost just before.
-pub(crate) fn do_collapse<G: Gauge>(
+pub(crate) fn do_collapse<G: TellingGauge>(
     mesh: &mut Mesh,
     gauge: &mut G,
     queue: &mut Queue<G::Cost>,
@@ -110,7 +110,11 @@ fn astride_ahead(mesh: &Mesh) -> Option<(Record, u16, u16)>
 }
 
 /// Takes the last collapse back, if one is done, and answers the new position. The queue stays as it is.
-pub(crate) fn do_split<G: Gauge>(mesh: &mut Mesh, gauge: &mut G, stale: &mut Stale) -> Option<usize>
+pub(crate) fn do_split<G: TellingGauge>(
+    mesh: &mut Mesh,
+    gauge: &mut G,
+    stale: &mut Stale,
+) -> Option<usize>
     ensures follows { FollowsBy G.Gauge G.Cost.Ordered mesh.old gauge.old stale.old Split (split_answer result) mesh.new gauge.new stale.new }
     ensures unchanged { IfNone result ((mesh.new ≡ mesh.old) × (gauge.new ≡ gauge.old)) }
 {
@@ -123,7 +127,7 @@ pub(crate) fn do_split<G: Gauge>(mesh: &mut Mesh, gauge: &mut G, stale: &mut Sta
 }
 
 /// Does the next collapse of the log again, if one lies ahead, and answers the new position.
-pub(crate) fn do_redo<G: Gauge>(
+pub(crate) fn do_redo<G: TellingGauge>(
     mesh: &mut Mesh,
     gauge: &mut G,
     queue: &mut Queue<G::Cost>,

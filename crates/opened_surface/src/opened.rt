@@ -1,6 +1,6 @@
 //! An opened surface.
 use crate::stale::Stale;
-use gauge::Gauge;
+use gauge::telling::TellingGauge;
 use judging::verdict::Counts;
 use mesh::mesh::Mesh;
 use queue::Queue;
@@ -12,7 +12,7 @@ pub mod thinned;
 
 /// A surface with its log, the gauge that has its account, and for each half-edge the key of its collapse in a queue.
 #[derive(Drop)]
-pub struct Opened<G: Gauge> {
+pub struct Opened<G: TellingGauge> {
     mesh: Mesh,
     gauge: G,
     queue: Queue<G::Cost>,

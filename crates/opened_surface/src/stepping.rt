@@ -8,12 +8,12 @@ ghost use Rattle.opened_surface.specs.Tied.{Follows, Tied};
 use crate::moving::perform;
 use crate::stale::Stale;
 use crate::stale::clearing::clear;
-use gauge::Gauge;
+use gauge::telling::TellingGauge;
 use mesh::mesh::Mesh;
 use queue::{Key, Queue};
 
 /// The first of the permitted collapses, if there is one. Those before it in the queue are not permitted, and lose their keys.
-fn first_permitted<G: Gauge>(mesh: &Mesh, queue: &mut Queue<G::Cost>) -> Option<Key<G::Cost>>
+fn first_permitted<G: TellingGauge>(mesh: &Mesh, queue: &mut Queue<G::Cost>) -> Option<Key<G::Cost>>
     ensures found { Found G.Gauge G.Cost.Ordered mesh.now queue.old result queue.new }
 {
     while let Some((h, key)) = queue.least() {
@@ -26,7 +26,7 @@ fn first_permitted<G: Gauge>(mesh: &Mesh, queue: &mut Queue<G::Cost>) -> Option<
 }
 
 /// Makes the first of the permitted collapses, if there is one, and answers it with what it cost just before.
-pub(crate) fn do_step<G: Gauge>(
+pub(crate) fn do_step<G: TellingGauge>(
     mesh: &mut Mesh,
     gauge: &mut G,
     queue: &mut Queue<G::Cost>,

@@ -11,6 +11,7 @@ ghost use Rattle.std.proofs.Common.{rules};
 
 use crate::walk::swept;
 use fraction::Fraction;
+use gauge::telling::TellingGauge;
 use gauge::{Gauge, NoPair, TooManyVertices};
 use mesh::mesh::Mesh;
 
@@ -85,8 +86,6 @@ impl Gauge for Sweep {
 
     ghost price = { λ s u w x y p q near. price_of u w q near };
 
-    ghost blind = { false };
-
     ghost amount = { λ f. f.amount };
 
     ghost divisor = { λ f. f.divisor };
@@ -98,16 +97,6 @@ impl Gauge for Sweep {
     ghost merged_sound = { Prim.search rules };
 
     ghost back = { Prim.search rules };
-
-    ghost unseen = { Prim.search rules };
-
-    fn is_blind() -> bool {
-        false
-    }
-
-    fn most_vertices(&self) -> usize {
-        CAPACITY
-    }
 
     fn open(&mut self, mesh: &Mesh) -> Result<(), TooManyVertices> {
         let vertices = mesh.positions().len();
@@ -138,5 +127,20 @@ impl Gauge for Sweep {
 
     fn figures(cost: &Fraction) -> (u64, u64) {
         (cost.amount(), u64::from(cost.divisor()))
+    }
+}
+
+/// Prices rest on the triangles.
+impl TellingGauge for Sweep {
+    ghost blind = { false };
+
+    ghost unseen = { Prim.search rules };
+
+    fn is_blind() -> bool {
+        false
+    }
+
+    fn most_vertices(&self) -> usize {
+        CAPACITY
     }
 }

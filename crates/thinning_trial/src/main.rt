@@ -4,7 +4,7 @@
 use anyhow::anyhow;
 use drawing::point::Point;
 use gathering::gathering::Gathering;
-use gauge::Gauge;
+use gauge::telling::TellingGauge;
 use judging::verdict::Counts;
 use ledger::call::{Answer, Call, Refusal};
 use mesh::mesh::permits::CollapseRefusal;
@@ -80,13 +80,13 @@ fn show_counts(rt: &HostRuntime, counts: Counts) -> io::Result<()> {
 }
 
 /// Prints the figures of a cost after some words.
-fn show_cost<G: Gauge>(rt: &HostRuntime, words: &str, cost: &G::Cost) -> io::Result<()> {
+fn show_cost<G: TellingGauge>(rt: &HostRuntime, words: &str, cost: &G::Cost) -> io::Result<()> {
     let (amount, divisor) = G::figures(cost);
     println!(rt; "{words} {amount} / {divisor}")
 }
 
 /// Prints what the collapse of `u` to `w` would cost.
-fn show_price<G: Gauge>(
+fn show_price<G: TellingGauge>(
     rt: &HostRuntime,
     opened: &Opened<G>,
     u: u16,
@@ -100,7 +100,7 @@ fn show_price<G: Gauge>(
     Ok(())
 }
 
-fn show_collapse<G: Gauge>(
+fn show_collapse<G: TellingGauge>(
     rt: &HostRuntime,
     outcome: Result<G::Cost, CollapseRefusal>,
 ) -> io::Result<()> {
@@ -110,7 +110,10 @@ fn show_collapse<G: Gauge>(
     }
 }
 
-fn show_step<G: Gauge>(rt: &HostRuntime, outcome: Option<Key<G::Cost>>) -> anyhow::Result<()> {
+fn show_step<G: TellingGauge>(
+    rt: &HostRuntime,
+    outcome: Option<Key<G::Cost>>,
+) -> anyhow::Result<()> {
     match outcome {
         Some(Key { cost, u, w }) => {
             print!(rt; "{u} to {w} ")?;
@@ -130,7 +133,11 @@ fn show_position(rt: &HostRuntime, outcome: Option<usize>, otherwise: Refusal) -
 }
 
 /// Goes to the position `target`, and prints where that is.
-fn show_go<G: Gauge>(rt: &HostRuntime, opened: &mut Opened<G>, target: usize) -> io::Result<()> {
+fn show_go<G: TellingGauge>(
+    rt: &HostRuntime,
+    opened: &mut Opened<G>,
+    target: usize,
+) -> io::Result<()> {
     match opened.go(target) {
         Some(_) => {
             let position = opened.mesh().position();
@@ -141,7 +148,7 @@ fn show_go<G: Gauge>(rt: &HostRuntime, opened: &mut Opened<G>, target: usize) ->
 }
 
 /// Prints the answer to one of a list of calls.
-fn show_answer<G: Gauge>(rt: &HostRuntime, answer: &Answer<G::Cost>) -> anyhow::Result<()> {
+fn show_answer<G: TellingGauge>(rt: &HostRuntime, answer: &Answer<G::Cost>) -> anyhow::Result<()> {
     match answer {
         Answer::Collapsed(cost) => show_cost::<G>(rt, "collapsed for", cost)?,
         Answer::Stepped { u, w, cost } => {
@@ -157,7 +164,7 @@ fn show_answer<G: Gauge>(rt: &HostRuntime, answer: &Answer<G::Cost>) -> anyhow::
 }
 
 /// Steps until none is permitted, with collapses that are refused in between.
-fn try_collapses<G: Gauge>(rt: &HostRuntime, opened: &mut Opened<G>) -> anyhow::Result<()> {
+fn try_collapses<G: TellingGauge>(rt: &HostRuntime, opened: &mut Opened<G>) -> anyhow::Result<()> {
     show_price(rt, opened, 0, 1)?;
     show_price(rt, opened, 0, 2)?;
     show_step::<G>(rt, opened.step())?;
@@ -170,7 +177,7 @@ fn try_collapses<G: Gauge>(rt: &HostRuntime, opened: &mut Opened<G>) -> anyhow::
 }
 
 /// Goes to and fro on the log of two collapses, and then collapses another way.
-fn try_moves<G: Gauge>(rt: &HostRuntime, opened: &mut Opened<G>) -> anyhow::Result<()> {
+fn try_moves<G: TellingGauge>(rt: &HostRuntime, opened: &mut Opened<G>) -> anyhow::Result<()> {
     show_position(rt, opened.redo(), Refusal::NothingAhead)?;
     show_position(rt, opened.split(), Refusal::NothingDone)?;
     show_position(rt, opened.redo(), Refusal::NothingAhead)?;
@@ -212,7 +219,7 @@ fn show_drawn(
 }
 
 /// Draws the surface into lists that are too short and into lists that are long enough.
-fn try_drawing<G: Gauge>(rt: &HostRuntime, opened: &Opened<G>) -> anyhow::Result<()> {
+fn try_drawing<G: TellingGauge>(rt: &HostRuntime, opened: &Opened<G>) -> anyhow::Result<()> {
     let origin = Point {
         x: 0.0,
         y: 0.0,
@@ -231,7 +238,7 @@ fn try_drawing<G: Gauge>(rt: &HostRuntime, opened: &Opened<G>) -> anyhow::Result
 }
 
 /// Opens the octahedron on the gauge, and makes calls on it one at a time.
-fn try_calls<G: Gauge + Drop>(rt: &HostRuntime, gauge: G) -> anyhow::Result<()> {
+fn try_calls<G: TellingGauge + Drop>(rt: &HostRuntime, gauge: G) -> anyhow::Result<()> {
     let gathering = octahedron(rt)?;
     let mut opened = match open(rt.alloc(), gathering, gauge) {
         Ok(opened) => opened,
@@ -244,7 +251,7 @@ fn try_calls<G: Gauge + Drop>(rt: &HostRuntime, gauge: G) -> anyhow::Result<()> 
 }
 
 /// Opens the octahedron on the gauge and makes a list of calls on it, all at once.
-fn try_list<G: Gauge + Drop>(rt: &HostRuntime, gauge: G) -> anyhow::Result<()> {
+fn try_list<G: TellingGauge + Drop>(rt: &HostRuntime, gauge: G) -> anyhow::Result<()> {
     let thinned = match thin(rt.alloc(), octahedron(rt)?, gauge, &CALLS) {
         Ok(thinned) => thinned,
         Err(_) => return Err(anyhow!("not opened")),

@@ -12,13 +12,13 @@ use crate::calls::run_all;
 use crate::going::do_go;
 use crate::moving::{do_collapse, do_redo, do_split};
 use crate::stepping::do_step;
-use gauge::Gauge;
+use gauge::telling::TellingGauge;
 use ledger::call::{Answer, Call};
 use mesh::mesh::permits::CollapseRefusal;
 use queue::Key;
 use std::alloc::{AllocError, Global};
 
-impl<G: Gauge> Opened<G> {
+impl<G: TellingGauge> Opened<G> {
     /// Collapses `u` to `w` where that is permitted, and answers what it cost just before.
     pub fn collapse(&mut self, u: u16, w: u16) -> Result<G::Cost, CollapseRefusal>
         ensures called { Consistent G.Gauge G.Cost.Ordered self.old → Called G.Gauge G.Cost.Ordered self.old (Collapse u w) (collapse_answer result) self.new }

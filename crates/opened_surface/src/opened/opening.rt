@@ -7,7 +7,7 @@ use super::Opened;
 use crate::mending::fill;
 use crate::stale::Stale;
 use gathering::gathering::Gathering;
-use gauge::Gauge;
+use gauge::telling::TellingGauge;
 use judging::judge::judge;
 use judging::verdict::{Counts, Flaw, Verdict};
 use mesh::mesh::{Mesh, opening as meshes};
@@ -82,7 +82,7 @@ fn why_large(heap: Global, gathering: &Gathering) -> Why
 }
 
 /// Opens the account of a mesh and gives each of its half-edges its key.
-fn begin<G: Gauge>(
+fn begin<G: TellingGauge>(
     mesh: Mesh,
     mut gauge: G,
     mut queue: Queue<G::Cost>,
@@ -103,7 +103,7 @@ fn begin<G: Gauge>(
 }
 
 /// Opens the gathered surface with a gauge, or hands both back as they came.
-pub fn open<G: Gauge>(
+pub fn open<G: TellingGauge>(
     heap: Global,
     gathering: Gathering,
     gauge: G,

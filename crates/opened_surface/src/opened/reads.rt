@@ -18,12 +18,12 @@ use drawing::point::Point;
 use drawing::refusal::TooShort;
 use drawing::regathering::{Unfit, redraw};
 use gathering::gathering::Gathering;
-use gauge::Gauge;
+use gauge::telling::TellingGauge;
 use judging::verdict::Counts;
 use mesh::mesh::Mesh;
 use std::alloc::Global;
 
-impl<G: Gauge> Opened<G> {
+impl<G: TellingGauge> Opened<G> {
     /// The surface as it is now, with its log and position.
     pub fn mesh(&self) -> &Mesh
         ensures value { result.now ≡ self.now.mesh }

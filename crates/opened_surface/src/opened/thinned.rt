@@ -5,19 +5,19 @@ use super::Opened;
 use super::opening::{Unopened, Why, open};
 use crate::calls::run_all;
 use gathering::gathering::Gathering;
-use gauge::Gauge;
+use gauge::telling::TellingGauge;
 use ledger::call::{Answer, Call};
 use std::alloc::Global;
 
 /// An opened surface after some calls, and what each of them answered.
 #[derive(Drop)]
-pub struct Thinned<G: Gauge> {
+pub struct Thinned<G: TellingGauge> {
     pub opened: Opened<G>,
     pub answers: Vec<Answer<G::Cost>>,
 }
 
 /// Opens the gathered surface with a gauge and makes the calls on it in turn, or hands gathering and gauge back as they came.
-pub fn thin<G: Gauge>(
+pub fn thin<G: TellingGauge>(
     heap: Global,
     gathering: Gathering,
     gauge: G,

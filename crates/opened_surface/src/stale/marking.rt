@@ -7,7 +7,7 @@ ghost use Rattle.opened_surface.specs.Stale.{repriced as repriced_of, reopened a
 
 use super::{Stale, empty_set, mark_in};
 use crate::keys::Mending;
-use gauge::Gauge;
+use gauge::telling::TellingGauge;
 use mesh::mesh::Mesh;
 use queue::Refusal;
 use std::alloc::Global;
@@ -54,9 +54,9 @@ fn mark_ring(mesh: &Mesh, stale: &mut Stale, u: u16, mending: Mending)
 }
 
 /// Makes stale what the collapse of `u` to `w`, or its undoing, changes; `u` is live in the mesh.
-pub(crate) fn mark_around<G: Gauge>(mesh: &Mesh, stale: &mut Stale, u: u16, w: u16)
+pub(crate) fn mark_around<G: TellingGauge>(mesh: &Mesh, stale: &mut Stale, u: u16, w: u16)
     ensures grown { Grown stale.old stale.new }
-    ensures covered { Sized mesh.now stale.old → Side (surface_of mesh.now) u w → Covered G.Gauge (surface_of mesh.now) u w (repriced_of stale.new) (reopened_of stale.new) }
+    ensures covered { Sized mesh.now stale.old → Side (surface_of mesh.now) u w → Covered G.blind (surface_of mesh.now) u w (repriced_of stale.new) (reopened_of stale.new) }
 {
     stale.mark(u, Mending::Reprice);
     stale.mark(w, Mending::Reprice);

@@ -12,6 +12,7 @@ ghost use Rattle.std.proofs.Common.{rules};
 
 use super::Planes;
 use crate::quadric::{Quadric, quadric_of};
+use gauge::telling::TellingGauge;
 use gauge::{Gauge, NoPair, TooManyVertices};
 use geometry::Position;
 use mesh::mesh::Mesh;
@@ -59,8 +60,6 @@ impl Gauge for Planes {
 
     ghost price = { λ _ _ _ x y _ p _. price_of x y p };
 
-    ghost blind = { true };
-
     ghost amount = { λ k. k };
 
     ghost divisor = { λ _. 1 };
@@ -72,16 +71,6 @@ impl Gauge for Planes {
     ghost merged_sound = { λ s x y p q. plus_sound y x };
 
     ghost back = { unfold plus minus in λ s x y p q. Prim.search rules };
-
-    ghost unseen = { Prim.search rules };
-
-    fn is_blind() -> bool {
-        true
-    }
-
-    fn most_vertices(&self) -> usize {
-        self.table.len()
-    }
 
     fn open(&mut self, mesh: &Mesh) -> Result<(), TooManyVertices> {
         let n = mesh.positions().len();
@@ -191,5 +180,20 @@ fn position_of(mesh: &Mesh, v: u16) -> Position
         positions[i]
     } else {
         Position { x: 0, y: 0, z: 0 }
+    }
+}
+
+/// Prices rest on entries and points alone.
+impl TellingGauge for Planes {
+    ghost blind = { true };
+
+    ghost unseen = { Prim.search rules };
+
+    fn is_blind() -> bool {
+        true
+    }
+
+    fn most_vertices(&self) -> usize {
+        self.table.len()
     }
 }

@@ -21,7 +21,7 @@ returns g c =
           split_follows g.G.Gauge g.G.Cost.Ordered c.args.mesh.now c.args.gauge.now q c.args.stale.now K r c.split.new.self c.part.new.self q c.mark_around.new.stale c.position.result
           c.in-Some.ensures.outcome c.position.ensures.value c.part.ensures.setting
           (λ e f J.
-          part_tied g.G.Gauge g.G.Cost.Ordered laws.opened_long laws.opened_sound laws.merged_sound laws.back laws.unseen
+          part_tied g.G.Gauge g.G.Cost.Ordered laws.opened_long laws.opened_sound laws.merged_sound laws.back g.G.TellingGauge.blind g.met.G.TellingGauge.unseen
           c.split.new.self c.args.mesh.now c.part.new.self c.args.gauge.now q c.args.stale.now c.mark_around.new.stale
           r.u r.w e f J c.mark_around.ensures.grown K c.part.ensures.setting c.part.result c.part.ensures.parted c.mark_around.ensures.covered);
       unchanged = tt;
