@@ -1,7 +1,9 @@
 -- How a count grows with its bound.
-use Rattle.std.proofs.Common.{◌≡◌, ℕ, zero, suc, ◌+◌, ◌<◌, ◌≤◌, Bool, true, false, cond, ltb, ◌⊎◌, sym, refl, inl, inr, eq-or-lt_of_le, add-one, arith}
+use Rattle.std.proofs.Common.{◌≡◌, ℕ, zero, suc, ◌+◌, ◌<◌, ◌≤◌, Bool, true, false, cond, ltb, ◌⊎◌, ◌∷◌, length, sym, refl, ap, ◌∙◌, inl, inr, eq-or-lt_of_le, add-one, arith}
 use Rattle.std.proofs.lemmas.Bool.{cases_lt, ltb-true, ltb-false}
+use Rattle.std.specs.List.{filter, range_with_len}
 use Rattle.surface.specs.Euler.{count}
+use Rattle.surface.proofs.Counting.{count_same}
 
 module _ (f : ℕ → Bool) where
   pub count_zero : count f 0 ≡ 0
@@ -61,3 +63,26 @@ module _ (f : ℕ → Bool) where
       go true p d q l r = let (x, y, z) = r (ltb-true k (count f n) p) in (omega arith, y, z)
       go false p true q l r = let m = ltb-false k (count f n) p in (omega arith, q, omega arith)
       go false p false q l r = let m = ltb-false k (count f n) p in absurd (omega arith)
+
+-- a count told from its first number on
+count_front : (f : ℕ → Bool) (n : ℕ) → count f (suc n) ≡ cond (f 0) 1 0 + count (λ k. f (suc k)) n
+unfolding count
+count_front f zero = refl
+count_front f (suc n) = let i = count_front f n in omega arith
+
+-- how many numbers of a range are live
+range_counted : (f : ℕ → Bool) (a n : ℕ) → length (filter f (range_with_len a n)) ≡ count (λ k. f (a + k)) n
+unfolding count
+range_counted f a zero = refl
+range_counted f a (suc n) =
+    let i = range_counted f (a + 1) n in
+    let s = count_same (λ k. f (a + 1 + k)) (λ k. f (a + suc k)) n (λ k l. ap f (omega arith)) in
+    let z : a + 0 ≡ a = omega arith in
+    one (f a) ∙ ap (λ m. cond (f a) 1 0 + m) (i ∙ s) ∙ ap (λ m. cond (f m) 1 0 + count (λ k. f (a + suc k)) n) (sym z) ∙ sym (count_front (λ k. f (a + k)) n)
+  where
+    one : (b : Bool) → length (cond b (a ∷ filter f (range_with_len (a + 1) n)) (filter f (range_with_len (a + 1) n))) ≡ cond b 1 0 + length (filter f (range_with_len (a + 1) n))
+    one true = omega arith
+    one false = omega arith
+
+pub counted : (f g : ℕ → Bool) (n m : ℕ) → n ≡ m → ((k : ℕ) → f k ≡ g k) → length (filter f (range_with_len 0 n)) ≡ count g m
+counted f g n m i s = range_counted f 0 n ∙ count_same (λ k. f (0 + k)) g n (λ k l. ap f (omega arith) ∙ s k) ∙ ap (count g) i

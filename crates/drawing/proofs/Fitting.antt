@@ -19,7 +19,7 @@ use Rattle.drawing.specs.declared.regathering.Unfit.{Unfit}
 use Rattle.drawing.specs.declared.regathering.Unfit.TheVariants.{NoMemory, Vertex, Triangle}
 use Rattle.drawing.proofs.Counts.{count_before, count_most, count_one_place, nth, nth_is}
 use Rattle.drawing.proofs.Lows.{triangle_slots_lem, few_triangles}
-use Rattle.drawing.proofs.Returned.{mesh_within, drawn_back, came_back_whole}
+use Rattle.drawing.proofs.Returned.{mesh_within, came_back_whole}
 
 module _ (m : Mesh) (ps : List Point) (ts : List (List ℕ)) (a b : ℕ) (ps' : List Point) (ts' : List (List ℕ)) (D : Drawn m ps ts a b ps' ts') where
   abbrev S : Surface
@@ -104,20 +104,20 @@ module _ (m : Mesh) (ps : List Point) (ts : List (List ℕ)) (a b : ℕ) (ps' : 
         corners_are = λ t k l i. G.corners_are t k (omega (arith, triangles_long)) i ∙ ap (λ (e : List ℕ). get_or e k 0) (get_or-take b ts' t [] l);
       }
 
-  comes_back : (r : Result Gathering Unfit) → Regathers (take a ps') (take b ts') r → ComesBack m r
-  comes_back (Ok g) G = drawn_back m ps ts a b ps' ts' D (positions g) (corners g) (whole (positions g) (corners g) G)
-  comes_back (Err NoMemory) G = tt
-  comes_back (Err (Vertex e)) G = G points_fit
-  comes_back (Err (Triangle e)) G = G (subst (TrianglesFit (take b ts')) (sym points_long) triangles_fit)
-
   pub comes_back_whole : (r : Result Gathering Unfit) → Regathers (take a ps') (take b ts') r → ComesBackWhole m r
   comes_back_whole (Ok g) G = came_back_whole m ps ts a b ps' ts' D (positions g) (corners g) (whole (positions g) (corners g) G)
   comes_back_whole (Err NoMemory) G = tt
   comes_back_whole (Err (Vertex e)) G = G points_fit
   comes_back_whole (Err (Triangle e)) G = G (subst (TrianglesFit (take b ts')) (sym points_long) triangles_fit)
 
+came : (m : Mesh) (r : Result Gathering Unfit) → ComesBackWhole m r → ComesBack m r
+came m (Ok g) W = W.came
+came m (Err NoMemory) W = tt
+came m (Err (Vertex e)) W = W
+came m (Err (Triangle e)) W = W
+
 pub drawn_and_regathered : DrawnAndRegathered
-drawn_and_regathered m ps ts a b ps' ts' D r G = comes_back m ps ts a b ps' ts' D r G
+drawn_and_regathered m ps ts a b ps' ts' D r G = came m r (comes_back_whole m ps ts a b ps' ts' D r G)
 
 pub drawn_and_regathered_whole : DrawnAndRegatheredWhole
 drawn_and_regathered_whole m ps ts a b ps' ts' D r G = comes_back_whole m ps ts a b ps' ts' D r G

@@ -1,10 +1,12 @@
 -- The numbers of live triangles and vertices stand within the lists of the half-edges.
-use Rattle.std.proofs.Common.{◌≡◌, ℕ, ◌*◌, ◌/◌, ◌<◌, ◌≤◌, true, List, [], ◌∷◌, get_or, vec_items, vec_len, ap, ◌∙◌, arith}
+use Rattle.std.proofs.Common.{◌≡◌, ℕ, ◌*◌, ◌/◌, ◌<◌, ◌≤◌, true, List, [], ◌∷◌, get_or, is_some, Some, None, Option, vec_items, vec_len, sym, ap, ◌∙◌, arith}
 use Rattle.surface.specs.Surface.{next, prev}
 use Rattle.surface.specs.Read.{read}
+use Rattle.surface.proofs.Flags.{flag_false}
 use Rattle.surface.proofs.Tris.{tri_at, next_triangle, second_is, third_is}
 use Rattle.mesh.specs.Laws.{vertex_slots, triangle_slots}
 use Rattle.mesh.specs.Model.{held}
+use Rattle.mesh.specs.Reads.{Outgoing}
 use Rattle.mesh.specs.declared.halfedges.HalfEdges.{HalfEdges}
 use Rattle.mesh.specs.declared.mesh.Mesh.{Mesh}
 use Rattle.mesh.proofs.Reading.{set_within}
@@ -25,6 +27,11 @@ module _ (e : HalfEdges) where
 
   pub vertex_low : (v : ℕ) → (held e).present v ≡ true → v < vec_len e.vertices
   vertex_low v l = let p = present_low e v l in let q = e.vertices.ok.0 in omega arith
+
+  -- a vertex is live just where a half-edge begins there
+  pub live_told : (v : ℕ) (o : Option ℕ) → Outgoing (held e) v o → is_some o ≡ (held e).present v
+  live_told v None n = sym (flag_false ((held e).present v) n)
+  live_told v (Some h) (a, b, t) = sym ((closed_held e).known _ _ _ _ t)
 
   -- a corner of a live triangle is a live vertex
   corner_low : (h : ℕ) → (held e).alive (h / 3) ≡ true → (held e).corner h < vec_len e.vertices

@@ -16,7 +16,7 @@ use Rattle.mesh.proofs.Round.{closed_held}
 use Rattle.drawing.specs.Places.{place, triangle_place}
 use Rattle.drawing.specs.Drawn.{Drawn, position_at}
 use Rattle.drawing.specs.ClosedUp.{ClosedUp}
-use Rattle.drawing.specs.Back.{TakenFrom, CameBack, CameBackWhole, DrawnBack, DrawnBackWhole}
+use Rattle.drawing.specs.Back.{TakenFrom, CameBackWhole, DrawnBack, DrawnBackWhole}
 use Rattle.drawing.specs.declared.point.Point.{Point}
 use Rattle.drawing.proofs.Counts.{count_before}
 use Rattle.drawing.proofs.Lows.{live_low, vertex_low, vertex_slots_lem, triangle_slots_lem}
@@ -66,27 +66,24 @@ module _ (m : Mesh) (ps : List Point) (ts : List (List ℕ)) (a b : ℕ) (ps' : 
             ∙ entry _ _ _ k (λ j. place S (S.corner (3 * t + j))) (ap (λ h. place S (S.corner h)) z) refl refl i;
       }
 
-  came_back : CameBack m qs cs
-  came_back =
-      record {
-        same_shape = closing_up (surface m) (surface_of qs cs) (triangle_slots m) (vertex_slots m) (closed_held m.edges) (mesh_within m) regathered;
-        same_points = λ v l.
-            let S = surface m in
-            let low = count_before S.present v (vertex_slots m) ((mesh_within m).vertices v l) l in
-            ap vector_of (G.positions_are (place S v) unread (position_at (vec_items m.positions) v) (let c = D.vertices_counted in omega arith) (D.at_vertex v unread l));
-      }
-
   pub came_back_whole : CameBackWhole m qs cs
   came_back_whole =
       record {
-        came = came_back;
+        came =
+            record {
+              same_shape = closing_up (surface m) (surface_of qs cs) (triangle_slots m) (vertex_slots m) (closed_held m.edges) (mesh_within m) regathered;
+              same_points = λ v l.
+                  let S = surface m in
+                  let low = count_before S.present v (vertex_slots m) ((mesh_within m).vertices v l) l in
+                  ap vector_of (G.positions_are (place S v) unread (position_at (vec_items m.positions) v) (let c = D.vertices_counted in omega arith) (D.at_vertex v unread l));
+            };
         vertices_many = G.positions_many ∙ D.vertices_counted;
         triangles_many = triangles_many;
         closed_up = regathered;
       }
 
-pub drawn_back : DrawnBack
-drawn_back m ps ts a b ps' ts' D qs cs G = came_back m ps ts a b ps' ts' D qs cs G
-
 pub drawn_back_whole : DrawnBackWhole
 drawn_back_whole m ps ts a b ps' ts' D qs cs G = came_back_whole m ps ts a b ps' ts' D qs cs G
+
+pub drawn_back : DrawnBack
+drawn_back m ps ts a b ps' ts' D qs cs G = (drawn_back_whole m ps ts a b ps' ts' D qs cs G).came

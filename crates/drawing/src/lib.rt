@@ -3,7 +3,7 @@
 
 ghost use Rattle.drawing.specs.Drawn.{Draws};
 
-use crate::places::{count_triangles, number_vertices};
+use crate::places::{count_vertices, live_triangles, number_vertices};
 use crate::point::Point;
 use crate::refusal::TooShort;
 use crate::writing::{write_points, write_triangles};
@@ -26,12 +26,13 @@ pub fn draw(
     ensures drawn { Draws mesh.now points.old triangles.old result points.new triangles.new }
 {
     let edges = mesh.edges();
-    let mut places = [0; 1024];
-    let vertex_count = number_vertices(edges, &mut places);
-    let triangle_count = count_triangles(edges);
+    let vertex_count = usize::from(count_vertices(edges));
+    let triangle_count = usize::from(live_triangles(edges));
     if points.len() < vertex_count || triangles.len() < triangle_count {
         return Err(TooShort);
     }
+    let mut places = [0; 1024];
+    number_vertices(edges, &mut places);
     write_points(mesh, points);
     write_triangles(edges, &places, triangles);
     Ok((vertex_count, triangle_count))

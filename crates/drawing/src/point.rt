@@ -4,7 +4,7 @@ ghost use Rattle.drawing.specs.Points.{Quarter, Placed};
 use geometry::Position;
 
 /// Where a vertex lies, in metres.
-#[derive(Clone, Copy)]
+#[derive(Clone, Copy, Default)]
 pub struct Point {
     pub x: f32,
     pub y: f32,
@@ -19,12 +19,14 @@ fn quarter(n: u8) -> f32
 }
 
 /// A position in metres.
-pub fn in_metres(position: Position) -> Point
-    ensures placed { Placed position result }
-{
-    Point {
-        x: quarter(position.x),
-        y: quarter(position.y),
-        z: quarter(position.z),
+impl From<Position> for Point {
+    ghost from_gives = { Placed };
+
+    fn from(position: Position) -> Point {
+        Point {
+            x: quarter(position.x),
+            y: quarter(position.y),
+            z: quarter(position.z),
+        }
     }
 }

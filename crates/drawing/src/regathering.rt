@@ -2,15 +2,16 @@
 ghost use Rattle.std.specs.Prelude.{◌≡◌, ℕ, [], length};
 ghost use Rattle.gathering.specs.Model.{positions as positions_of, corners as corners_of};
 ghost use Rattle.drawing.specs.Points.{Quarter};
+ghost use Rattle.drawing.specs.declared.regathering.Unfit.TheVariants.{NoMemory, Vertex, Triangle};
 ghost use Rattle.drawing.specs.Back.{GathersPoints, GathersTriangles, Regathers, ComesBackWhole};
 
 use crate::draw;
-use crate::places::{count_triangles, count_vertices};
+use crate::places::{count_vertices, live_triangles};
 use crate::point::Point;
 use gathering::gathering::Gathering;
 use gathering::refusal::{TriangleRefusal, VertexRefusal};
 use mesh::mesh::Mesh;
-use std::alloc::Global;
+use std::alloc::{AllocError, Global};
 use std::num::saturating_f32_to_u16;
 
 /// Why points and triangles are not gathered.
@@ -19,6 +20,30 @@ pub enum Unfit {
     NoMemory,
     Vertex(VertexRefusal),
     Triangle(TriangleRefusal),
+}
+
+impl From<AllocError> for Unfit {
+    ghost from_gives = { λ _ r. r ≡ NoMemory };
+
+    fn from(_e: AllocError) -> Unfit {
+        Unfit::NoMemory
+    }
+}
+
+impl From<VertexRefusal> for Unfit {
+    ghost from_gives = { λ e r. r ≡ Vertex e };
+
+    fn from(e: VertexRefusal) -> Unfit {
+        Unfit::Vertex(e)
+    }
+}
+
+impl From<TriangleRefusal> for Unfit {
+    ghost from_gives = { λ e r. r ≡ Triangle e };
+
+    fn from(e: TriangleRefusal) -> Unfit {
+        Unfit::Triangle(e)
+    }
 }
 
 /// Metres in quarter metres.
@@ -32,8 +57,7 @@ fn gather_points(gathering: &mut Gathering, points: &[Point]) -> Result<(), Vert
     requires empty { positions_of gathering.old ≡ [] }
     ensures outcome { GathersPoints points.now gathering.old result gathering.new }
 {
-    for i in 0..points.len() {
-        let p = points[i];
+    for p in points {
         gathering.vertex(in_quarters(p.x), in_quarters(p.y), in_quarters(p.z))?;
     }
     Ok(())
@@ -46,9 +70,8 @@ fn gather_triangles(
     requires empty { corners_of gathering.old ≡ [] }
     ensures outcome { GathersTriangles triangles.now gathering.old result gathering.new }
 {
-    for t in 0..triangles.len() {
-        let corners = triangles[t];
-        gathering.triangle(corners[0], corners[1], corners[2])?;
+    for [a, b, c] in triangles {
+        gathering.triangle(*a, *b, *c)?;
     }
     Ok(())
 }
@@ -57,15 +80,9 @@ fn gather_triangles(
 pub fn regather(heap: Global, points: &[Point], triangles: &[[u16; 3]]) -> Result<Gathering, Unfit>
     ensures outcome { Regathers points.now triangles.now result }
 {
-    let Ok(mut gathering) = Gathering::new(heap) else {
-        return Err(Unfit::NoMemory);
-    };
-    if let Err(e) = gather_points(&mut gathering, points) {
-        return Err(Unfit::Vertex(e));
-    }
-    if let Err(e) = gather_triangles(&mut gathering, triangles) {
-        return Err(Unfit::Triangle(e));
-    }
+    let mut gathering = Gathering::new(heap)?;
+    gather_points(&mut gathering, points)?;
+    gather_triangles(&mut gathering, triangles)?;
     Ok(gathering)
 }
 
@@ -76,20 +93,11 @@ pub fn redraw(heap: Global, mesh: &Mesh) -> Result<Gathering, Unfit>
 {
     let edges = mesh.edges();
     let vertex_count = usize::from(count_vertices(edges));
-    let triangle_count = count_triangles(edges);
-    let origin = Point {
-        x: 0.0,
-        y: 0.0,
-        z: 0.0,
-    };
-    let Ok(mut points) = vec![in heap; origin; vertex_count] else {
-        return Err(Unfit::NoMemory);
-    };
-    let Ok(mut triangles) = vec![in heap; [0; 3]; triangle_count] else {
-        return Err(Unfit::NoMemory);
-    };
+    let triangle_count = usize::from(live_triangles(edges));
+    let mut points = vec![in heap; Point::default(); vertex_count]?;
+    let mut triangles = vec![in heap; [0; 3]; triangle_count]?;
     match draw(mesh, &mut points, &mut triangles) {
         Ok(_) => regather(heap, &points, &triangles),
-        Err(_) => unreachable(),
+        Err(_) => unreachable!(),
     }
 }

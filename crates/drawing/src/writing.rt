@@ -5,7 +5,7 @@ ghost use Rattle.drawing.specs.Places.{place, triangle_place, Numbering, corners
 ghost use Rattle.drawing.specs.Drawn.{Pointed, Cornered};
 
 use crate::places::is_vertex;
-use crate::point::{Point, in_metres};
+use crate::point::Point;
 use mesh::halfedges::HalfEdges;
 use mesh::mesh::Mesh;
 
@@ -16,10 +16,11 @@ pub(crate) fn write_points(mesh: &Mesh, points: &mut [Point])
 {
     let edges = mesh.edges();
     let positions = mesh.positions();
+    // Kept as a count of its own: by `enumerate` over the live ones the proof did not close.
     let mut k = 0;
     for v in 0..edges.vertex_count() {
         if is_vertex(edges, v as u16) {
-            points[k] = in_metres(positions[v]);
+            points[k] = Point::from(positions[v]);
             k += 1;
         }
     }
@@ -46,6 +47,7 @@ pub(crate) fn write_triangles(edges: &HalfEdges, places: &[u16], triangles: &mut
     requires room { triangle_place (held edges.now) (vec_len edges.now.triangles) ≤ length triangles.old }
     ensures written { Cornered (held edges.now) (vec_len edges.now.triangles) triangles.old triangles.new }
 {
+    // Kept as a count of its own: by `enumerate` over the live ones the proof of `write_points` did not close.
     let mut k = 0;
     for t in 0..edges.half_edge_count() / 3 {
         if edges.is_live((3 * t) as u16) {

@@ -1,5 +1,5 @@
 -- The octahedron as it is opened.
-use Rattle.std.proofs.Common.{ℕ, ◌+◌, not, eqb, [], ◌∷◌, get_or, pos, nat_abs, refl, ap, arith, lit≤}
+use Rattle.std.proofs.Common.{ℕ, ◌+◌, not, eqb, [], ◌∷◌, get_or, pos, Ok, nat_abs, refl, ap, arith, lit≤}
 use Rattle.std.proofs.lemmas.Bool.{eqb-false, not-true}
 use Rattle.surface.specs.Surface.{Surface, Side, Within}
 use Rattle.surface.specs.Closed.{Closed}
@@ -7,7 +7,6 @@ use Rattle.surface.specs.Geometry.{Vector, normal_at}
 use Rattle.mesh.proofs.Along.{whole_within}
 use Rattle.gathering.specs.Model.{surface_of, point_of}
 use Rattle.judging.specs.Verdict.{NoneFlat, Judged}
-use Rattle.judging.specs.declared.verdict.Verdict.TheVariants.{Accepted}
 use Rattle.ledger.specs.Book.{Sensible, surface_now, PermittedNow}
 use Rattle.examples.specs.Octahedron.{positions, corners, octahedron}
 use Rattle.examples.proofs.Every.{every_at}
@@ -43,7 +42,7 @@ none_flat : NoneFlat start points
 unfolding tests
 none_flat t (l, e) = eqb-false _ 0 (not-true _ (every_at (λ t. not (eqb (span (normal_at start points t)) 0)) 8 refl t (start_within.triangles t l))) (ap span e)
 
-pub accepted : Judged positions corners (Accepted (record { vertices = 6; triangles = 8; euler = pos 2; pieces = 1 }))
+pub accepted : Judged positions corners (Ok (record { vertices = 6; triangles = 8; euler = pos 2; pieces = 1 }))
 unfolding tests
 accepted = (
   start_closed,

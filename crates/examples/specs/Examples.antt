@@ -1,10 +1,9 @@
 -- Worked examples: an octahedron that is opened on the gauge by planes and thinned, and flawed gatherings.
-use Rattle.std.specs.Prelude.{◌≡◌, ℕ, [], ◌∷◌, pos}
+use Rattle.std.specs.Prelude.{◌≡◌, ℕ, [], ◌∷◌, pos, Ok}
 use Rattle.surface.specs.Surface.{Tri, Side}
 use Rattle.surface.specs.Closed.{Closed}
 use Rattle.surface.specs.Collapse.{Moved}
 use Rattle.judging.specs.Verdict.{Judged}
-use Rattle.judging.specs.declared.verdict.Verdict.TheVariants.{Accepted}
 use Rattle.ledger.specs.Book.{surface_now, PermittedNow}
 use Rattle.ledger.specs.Ledger.{noted, placed_at}
 use Rattle.ledger.specs.declared.call.Call.TheVariants.{Collapse, Step, Split, Redo, Go}
@@ -16,7 +15,7 @@ use Rattle.examples.specs.Words.{planes_cost, SweepCost, Answered, AllAnswered, 
 
 pub record Examples : Type 0 where
   -- the octahedron is closed, of 6 vertices and 8 triangles, with Euler number 2, in 1 piece
-  pub accepted : Judged positions corners (Accepted (record { vertices = 6; triangles = 8; euler = pos 2; pieces = 1 }))
+  pub accepted : Judged positions corners (Ok (record { vertices = 6; triangles = 8; euler = pos 2; pieces = 1 }))
   -- each of its sides may be collapsed, for 8,000,000 by planes, and for 4,000 over 2 by sweep
   pub all_permitted : (u w : ℕ) → Side (surface_now octahedron) u w → PermittedNow octahedron u w
   pub all_by_planes : (u w : ℕ) → Side (surface_now octahedron) u w → planes_cost octahedron u w ≡ 8000000

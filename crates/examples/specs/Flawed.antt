@@ -1,10 +1,9 @@
 -- Gatherings of three vertices that are judged flawed.
-use Rattle.std.specs.Prelude.{◌≡◌, ℕ, List, [], ◌∷◌}
+use Rattle.std.specs.Prelude.{◌≡◌, ℕ, List, [], ◌∷◌, Err}
 use Rattle.geometry.specs.declared.Position.{Position}
 use Rattle.judging.specs.Numbers.{flaw_number, flaw_place}
 use Rattle.judging.specs.Verdict.{Judged}
 use Rattle.judging.specs.declared.verdict.Flaw.{Flaw}
-use Rattle.judging.specs.declared.verdict.Verdict.TheVariants.{Refused}
 use Rattle.examples.specs.Octahedron.{at}
 
 -- the vertices
@@ -25,4 +24,4 @@ double = 0 ∷ 1 ∷ 2 ∷ 0 ∷ 1 ∷ 2 ∷ []
 
 -- these triangles on the three vertices are refused by number n, at the triangle or vertex `place`
 abbrev pub Flawed : List ℕ → ℕ → ℕ → Type 0
-Flawed cs n place = (f : Flaw) × (flaw_number f ≡ n) × (flaw_place f ≡ place) × Judged three cs (Refused f)
+Flawed cs n place = (f : Flaw) × (flaw_number f ≡ n) × (flaw_place f ≡ place) × Judged three cs (Err f)

@@ -4,8 +4,6 @@
 ghost use Rattle.examples.specs.Examples.{Examples};
 
 /// The examples hold.
-pub fn examples_hold() -> u8
+pub fn examples_hold()
     ensures hold { Examples }
-{
-    0
-}
+{}

@@ -47,8 +47,8 @@ impl Fraction {
     fn compare_wholes(&self, other: &Fraction) -> Ordering
         ensures { MatchOrdering result (Below self.now.amount self.now.divisor other.now.amount other.now.divisor) (self.now.amount / self.now.divisor ≡ other.now.amount / other.now.divisor) (Below other.now.amount other.now.divisor self.now.amount self.now.divisor) }
     {
-        let whole = self.amount / self.divisor as u64;
-        let other_whole = other.amount / other.divisor as u64;
+        let whole = self.amount / u64::from(self.divisor);
+        let other_whole = other.amount / u64::from(other.divisor);
         whole.cmp(&other_whole)
     }
 
@@ -58,8 +58,8 @@ impl Fraction {
         requires { self.now.amount / self.now.divisor ≡ other.now.amount / other.now.divisor }
         ensures { Decides result (AtMost self.now.amount self.now.divisor other.now.amount other.now.divisor) }
     {
-        let m = self.divisor as u64;
-        let n = other.divisor as u64;
+        let m = u64::from(self.divisor);
+        let n = u64::from(other.divisor);
         let rest = self.amount % m;
         let other_rest = other.amount % n;
         rest * n <= other_rest * m

@@ -40,6 +40,17 @@ impl NoPair {
     }
 }
 
+/// Refuses what are not two of `count` vertices.
+pub fn check_pair(count: usize, u: u16, w: u16) -> Result<(), NoPair>
+    ensures pair { MatchResult result (λ _. TwoOf count u w) (λ _. NotTwoOf count u w) }
+{
+    if u != w && usize::from(u) < count && usize::from(w) < count {
+        Ok(())
+    } else {
+        Err(NoPair)
+    }
+}
+
 /// What a gauge means: a setting and a capacity that are fixed, and an account with one entry for each opened vertex.
 pub trait Gauge {
     type Cost: Ordered + Copy;

@@ -34,25 +34,20 @@ const TRIANGLES: [[u16; 3]; 8] = [
 /// The octahedron.
 fn octahedron(rt: &HostRuntime) -> anyhow::Result<Mesh> {
     let mut g = Gathering::new(rt.alloc())?;
-    for v in &VERTICES {
-        let _ = g.vertex(v[0], v[1], v[2]);
+    for [x, y, z] in VERTICES {
+        let _ = g.vertex(x, y, z);
     }
-    for t in &TRIANGLES {
-        let _ = g.triangle(t[0], t[1], t[2]);
+    for [a, b, c] in TRIANGLES {
+        let _ = g.triangle(a, b, c);
     }
-    match open(rt.alloc(), g) {
-        Ok(opening) => Ok(opening.mesh),
-        Err(_) => Err(anyhow!("not opened")),
-    }
+    let opening = open(rt.alloc(), g).map_err(|_| anyhow!("not opened"))?;
+    Ok(opening.mesh)
 }
 
 /// Prints the figures of the cost of collapsing `u` to `w`, if it has one.
 fn show<G: Gauge>(rt: &HostRuntime, mesh: &Mesh, gauge: &G, u: u16, w: u16) -> anyhow::Result<()> {
-    match gauge.cost(mesh, u, w) {
-        Some(cost) => {
-            let (amount, divisor) = G::figures(&cost);
-            println!(rt; "{u} {w}: {amount} / {divisor}")?;
-        }
+    match gauge.cost(mesh, u, w).map(|cost| G::figures(&cost)) {
+        Some((amount, divisor)) => println!(rt; "{u} {w}: {amount} / {divisor}")?,
         None => println!(rt; "{u} {w}: no side")?,
     }
     Ok(())
@@ -68,9 +63,7 @@ fn show_from<G: Gauge>(rt: &HostRuntime, mesh: &Mesh, gauge: &G, u: u16) -> anyh
 
 /// Opens the gauge, prints all costs, collapses 0 to 1 with its merge, prints those of 4, and takes both back.
 fn try_gauge<G: Gauge>(rt: &HostRuntime, mesh: &mut Mesh, gauge: &mut G) -> anyhow::Result<()> {
-    if gauge.open(mesh).is_err() {
-        return Err(anyhow!("too many vertices"));
-    }
+    gauge.open(mesh).map_err(|_| anyhow!("too many vertices"))?;
     for u in 0..6 {
         show_from(rt, mesh, gauge, u)?;
     }

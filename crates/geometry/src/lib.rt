@@ -14,7 +14,7 @@ pub struct Position {
 }
 
 /// A normal, not scaled.
-#[derive(Clone, Copy)]
+#[derive(Clone, Copy, Default, PartialEq)]
 pub struct Normal {
     pub x: i64,
     pub y: i64,
@@ -26,8 +26,7 @@ pub fn is_flat(a: Position, b: Position, c: Position) -> bool
     ensures zero { result ≡ true → normal (vector_of a) (vector_of b) (vector_of c) ≡ null }
     ensures not_missed { normal (vector_of a) (vector_of b) (vector_of c) ≡ null → result ≡ true }
 {
-    let n = normal_of(a, b, c);
-    n.x == 0 && n.y == 0 && n.z == 0
+    normal_of(a, b, c) == Normal::default()
 }
 
 /// The normal of the triangle `a`, `b`, `c`.

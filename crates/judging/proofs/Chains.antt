@@ -1,9 +1,10 @@
 -- Chaining one half-edge more, and walking a chain.
-use Rattle.std.proofs.Common.{◌≡◌, ℕ, suc, ◌+◌, ◌<◌, ◌≤◌, ◌≢◌, ◌⊎◌, List, length, get_or, set, Some, None, Option, sym, refl, ◌∙◌, subst, inl, inr, arith, length-set}
+use Rattle.std.proofs.Common.{◌≡◌, ℕ, ◌+◌, ◌<◌, ◌≤◌, ◌≢◌, ◌⊎◌, List, length, get_or, set, Some, None, Option, sym, refl, ap, ◌∙◌, subst, inl, inr, arith, length-set}
 use native.Mathlib.Decide.{ℕ_discrete}
 use Rattle.std.proofs.lemmas.List.{get_or-set_same, get_or-set_other}
 use Rattle.std.proofs.lemmas.Bool.{cases_lt}
-use Rattle.judging.specs.Chains.{LastBelow, ChainedBelow, Chained, Waiting, Standing, below}
+use Rattle.judging.specs.Chains.{LastBelow, ChainedBelow, Chained, Waiting, Standing, linked}
+use Rattle.judging.specs.declared.judge.outgoing.Outgoing.{Outgoing}
 
 -- a half-edge that begins elsewhere changes nothing
 skip : (cs : List ℕ) (v i : ℕ) (r : Option ℕ) → get_or cs i 0 ≢ v → LastBelow cs v i r → LastBelow cs v (i + 1) r
@@ -87,10 +88,14 @@ module _ {cs : List ℕ} {n : ℕ} {last link : List (Option ℕ)} (C : Chained 
     pub stand_step : Standing cs v (get_or link h None)
     stand_step = stand_last cs v h (get_or link h None) (omega arith) here
 
-    -- the walk comes down
-    pub comes_down : below (get_or link h None) < suc h
-    comes_down = go (get_or link h None) here
-      where
-        go : (r : Option ℕ) → LastBelow cs v h r → below r < suc h
-        go None L = omega arith
-        go (Some g) (a, b, f) = omega arith
+-- what a walk says of a step
+abbrev pub Steps : Outgoing → Option ℕ → Outgoing → Type 0
+Steps s r t = (r ≡ s.at) × (t.at ≡ linked s.link.now s.at) × (t.link.now ≡ s.link.now)
+
+-- a step of the walk that answers x stood at x, and leads to the half-edge that x is linked to
+pub stepped : {link : List (Option ℕ)} {x : ℕ} (s t : Outgoing) → s.link.now ≡ link → Steps s (Some x) t → (s.at ≡ Some x) × (t.at ≡ get_or link x None) × (t.link.now ≡ link)
+stepped {link} {x} s t e (r, a, l) = (sym r, a ∙ subst (λ (o : Option ℕ). linked s.link.now o ≡ get_or s.link.now x None) r refl ∙ ap (λ (m : List (Option ℕ)). get_or m x None) e, l ∙ e)
+
+-- a walk that begins as the answer of `outgoing` does
+pub begun : {it out : Outgoing} {link : List (Option ℕ)} {r : Option ℕ} → it ≡ out → out.link.now ≡ link → out.at ≡ r → (it.link.now ≡ link) × (it.at ≡ r)
+begun e f g = (ap (λ (o : Outgoing). o.link.now) e ∙ f, ap (λ (o : Outgoing). o.at) e ∙ g)

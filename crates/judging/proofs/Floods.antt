@@ -8,16 +8,11 @@ use Rattle.surface.specs.Read.{whole}
 use Rattle.surface.specs.Pieces.{Chain, Pieces, end, along}
 use Rattle.surface.proofs.Chains.{chain_from, chain_to, chain_then, chain_back}
 use Rattle.surface.proofs.Tris.{next_cases}
-use Rattle.surface.proofs.Counting.{count_less, count_none}
+use Rattle.surface.proofs.Counting.{count_less}
 use Rattle.gathering.specs.Limits.{Numbered}
 use Rattle.judging.specs.Chains.{LastBelow, Chained}
 use Rattle.judging.specs.Floods.{Marked, marked, Waits, Leads, Level, Settled, Grown, Spread, Walked, Flooded, Flooding, Found}
 use Rattle.judging.proofs.Whole.{whole_tri, tri_below, whole_present, present_below}
-
--- of the half-edges that a walk has still to visit, one more than the number of the next
-abbrev pub left : Option ℕ → ℕ
-left None = 0
-left (Some h) = h + 1
 
 -- what holds of two values holds of their equals
 pub carried : {A B : Type 0} {a a' : A} {b b' : B} (P : A → B → Type 0) → a' ≡ a → b' ≡ b → P a b → P a' b'
@@ -63,7 +58,7 @@ marked_more s n y e l u =
     count_less (λ v. get_or (set s y true) v false) (λ v. get_or s v false) y n
     (get_or-set_same s y true false (omega arith)) u (λ t d. get_or-set_other s y t true false d) l
 
--- ---- the queue
+-- ---- the list
 
 pub waits_more : {k v : ℕ} (q : List ℕ) (y : ℕ) → Waits q k v → Waits (q ++ y ∷ []) k v
 waits_more q y (i, k, l, e) = (i, k, omega (arith, length_push q y), get_or_append_left q (y ∷ []) 0 i l ∙ e)
@@ -75,7 +70,7 @@ module _ {n : ℕ} {s : List Bool} {q : List ℕ} (L : Level n s q) where
   pub level_most : length q ≤ n
   level_most = omega (arith, L.level, count_most (λ v. get_or s v false) n)
 
-  -- an unseen vertex has room in the queue
+  -- an unseen vertex has room in the list
   pub level_room : (y : ℕ) → y < n → get_or s y false ≡ false → length q < n
   level_room y l u = omega (arith, L.level, marked_more s n y L.flags l u, count_most (λ v. get_or (set s y true) v false) n)
 
@@ -83,7 +78,7 @@ module _ {n : ℕ} {s : List Bool} {q : List ℕ} (L : Level n s q) where
   level_more y l u =
       record {
         flags = length-set s y true ∙ L.flags;
-        level = length_push q y ∙ ap (λ (k : ℕ). k + 1) L.level ∙ marked_more s n y L.flags l u;
+        level = omega (arith, length_push q y, L.level, marked_more s n y L.flags l u);
         below = λ i k. go i k (cases_lt i (length q));
       }
     where
@@ -91,26 +86,42 @@ module _ {n : ℕ} {s : List Bool} {q : List ℕ} (L : Level n s q) where
       go i k (inl m) = rw (get_or_append_left q (y ∷ []) 0 i m) (L.below i m)
       go i k (inr m) = let e : length q ≡ i = omega (arith, length_push q y) in rw (get_or_push q y 0 i e) l
 
+pub no_entries : (xs : List ℕ) → length xs ≡ 0 → xs ≡ []
+no_entries [] e = refl
+no_entries (x ∷ xs) e = absurd (omega arith)
+
 pub level_none : (n : ℕ) → Level n (replicate n false) []
-level_none n =
-    record {
-      flags = length-replicate n false;
-      level = sym (count_none (λ v. get_or (replicate n false) v false) n (λ t l. get_or-replicate n t false false l));
-      below = λ i l. absurd (omega arith);
-    }
+level_none n = record { flags = length-replicate n false; level = omega arith; below = λ i l. absurd (omega arith) }
+
+-- the last one leaves the list
+module _ (n x : ℕ) (s : List Bool) (q q' : List ℕ) (e : q' ≡ q ++ x ∷ []) (L : Level n s q') where
+  many : length q + 1 ≡ length q'
+  many = omega (arith, ap length e, length_push q x)
+
+  pub level_popped : Level n s q
+  level_popped =
+      record {
+        flags = L.flags;
+        level = omega (arith, L.level, many);
+        below = λ i l. subst (λ (y : ℕ). y < n) (ap (λ (p : List ℕ). get_or p i 0) e ∙ get_or_append_left q (x ∷ []) 0 i l) (L.below i (omega (arith, many)));
+      }
+
+  pub popped_below : x < n
+  popped_below = subst (λ (y : ℕ). y < n) (ap (λ (p : List ℕ). get_or p (length q) 0) e ∙ get_or_push q x 0 (length q) refl) (L.below (length q) (omega (arith, many)))
 
 -- ---- spreading from one vertex
 
-module _ {cs : List ℕ} {x : ℕ} where
-  pub grown_none : (s : List Bool) (q : List ℕ) → Grown cs x s q s q
-  grown_none s q = record { kept = λ v m. m; longer = omega arith; same = λ i l. refl; listed = λ v m. inl m; led = λ i k l. absurd (omega arith) }
+module _ {cs : List ℕ} {n x : ℕ} where
+  pub grown_none : (s : List Bool) (q : List ℕ) → Grown cs n x s q s q
+  grown_none s q = record { kept = λ v m. m; longer = omega arith; as_many = refl; same = λ i l. refl; listed = λ v m. inl m; led = λ i k l. absurd (omega arith) }
 
-  pub grown_more : {s s' : List Bool} {q q' : List ℕ} → Grown cs x s q s' q' → (y : ℕ) → y < length s' → Leads cs x y →
-      Grown cs x s q (set s' y true) (q' ++ y ∷ [])
-  grown_more {s} {s'} {q} {q'} G y l d =
+  pub grown_more : {s s' : List Bool} {q q' : List ℕ} → Grown cs n x s q s' q' → (y : ℕ) → y < length s' → Leads cs x y →
+      marked s' n + 1 ≡ marked (set s' y true) n → Grown cs n x s q (set s' y true) (q' ++ y ∷ [])
+  grown_more {s} {s'} {q} {q'} G y l d more =
       record {
         kept = λ v m. mark_kept s' y v l (G.kept v m);
         longer = omega (arith, G.longer, length_push q' y);
+        as_many = omega (arith, G.as_many, more, length_push q' y);
         same = λ i k. get_or_append_left q' (y ∷ []) 0 i (omega (arith, G.longer)) ∙ G.same i k;
         listed = λ v m. listed v (mark_old s' y v m);
         led = λ i k m. led i k m (cases_lt i (length q'));
@@ -124,6 +135,7 @@ module _ {cs : List ℕ} {x : ℕ} where
       led i k m (inl o) = rw (get_or_append_left q' (y ∷ []) 0 i o) (G.led i k o)
       led i k m (inr o) = let e : length q' ≡ i = omega (arith, length_push q' y) in rw (get_or_push q' y 0 i e) d
 
+module _ {cs : List ℕ} {x : ℕ} where
   pub walked_none : {n : ℕ} {last link : List (Option ℕ)} → Chained cs n last link → x < n → (s : List Bool) → Walked cs x (get_or last x None) s
   walked_none C l s = record { done = length cs; within = omega arith; last = C.ends x l; past = λ h k m. absurd (omega arith) }
 
@@ -173,57 +185,63 @@ module _ {cs : List ℕ} {x : ℕ} where
 -- ---- flooding from one vertex
 
 module _ {cs : List ℕ} {n v : ℕ} where
-  pub flooding_none : {start : ℕ} (s : List Bool) (q : List ℕ) → start ≡ length q → v < length s → Settled cs s →
-      Flooding cs n v start start (set s v true) (set s v true) (q ++ v ∷ [])
-  flooding_none {start} s q b l Z =
+  pub flooding_none : (s : List Bool) (q : List ℕ) → q ≡ [] → v < length s → Settled cs s → Flooding cs n v (set s v true) (set s v true) (q ++ v ∷ [])
+  flooding_none s q none l Z =
       record {
         so_far = record { kept = λ y m. m; root = mark_same s v l; reached = λ y m. inl m };
-        begun = omega arith;
-        chained = λ i k m. let e : length q ≡ i = omega (arith, length_push q v) in chain_to (sym (get_or_push q v 0 i e)) end;
+        chained = λ i m. let e : length q ≡ i = omega (arith, length_push q v, ap length none) in chain_to (sym (get_or_push q v 0 i e)) end;
         pending = λ h k m. go h k (mark_old s v _ m);
       }
     where
-      go : (h : ℕ) → h < length cs → Marked s (get_or cs h 0) ⊎ (get_or cs h 0 ≡ v) → Marked (set s v true) (get_or cs (next h) 0) ⊎ Waits (q ++ v ∷ []) start (get_or cs h 0)
+      go : (h : ℕ) → h < length cs → Marked s (get_or cs h 0) ⊎ (get_or cs h 0 ≡ v) → Marked (set s v true) (get_or cs (next h) 0) ⊎ Waits (q ++ v ∷ []) 0 (get_or cs h 0)
       go h k (inl m) = inl (mark_kept s v _ l (Z h k m))
-      go h k (inr e) = inr (subst (λ (w : ℕ). Waits (q ++ v ∷ []) start w) (sym e) (waits_last q start v (omega arith)))
+      go h k (inr e) = inr (subst (λ (w : ℕ). Waits (q ++ v ∷ []) 0 w) (sym e) (waits_last q 0 v (omega arith)))
 
-  -- after the spread from x, which stands at the place `at`
-  pub flooding_more : {start at x : ℕ} {s s₁ s₂ : List Bool} {q₁ q₂ : List ℕ} → length cs % 3 ≡ 0 → at < length q₁ → x ≡ get_or q₁ at 0 →
-      Flooding cs n v start at s s₁ q₁ → Grown cs x s₁ q₁ s₂ q₂ → Spread cs x s₂ → Flooding cs n v start (at + 1) s s₂ q₂
-  flooding_more {start} {at} {x} {s} {s₁} {s₂} {q₁} {q₂} m3 l is F G P =
+  -- after the spread from x, which stood last in the list
+  pub flooding_more : {x : ℕ} {s s₁ s₂ : List Bool} {q₀ q₁ q₂ : List ℕ} → length cs % 3 ≡ 0 → q₁ ≡ q₀ ++ x ∷ [] → Flooding cs n v s s₁ q₁ → Grown cs n x s₁ q₀ s₂ q₂ →
+      Spread cs x s₂ → Flooding cs n v s s₂ q₂
+  flooding_more {x} {s} {s₁} {s₂} {q₀} {q₁} {q₂} m3 is F G P =
       record {
         so_far = record { kept = λ y m. G.kept y (F.so_far.kept y m); root = G.kept v F.so_far.root; reached = λ y m. reached y (G.listed y m) };
-        begun = omega (arith, F.begun);
-        chained = λ i k m. chained i k m (cases_lt i (length q₁));
+        chained = λ i m. chained i m (cases_lt i (length q₀));
         pending = λ h k m. pending h k (G.listed _ m);
       }
     where
+      many : length q₀ + 1 ≡ length q₁
+      many = omega (arith, ap length is, length_push q₀ x)
+
+      old : (i : ℕ) → i < length q₀ → get_or q₁ i 0 ≡ get_or q₀ i 0
+      old i l = ap (λ (q : List ℕ). get_or q i 0) is ∙ get_or_append_left q₀ (x ∷ []) 0 i l
+
+      top : get_or q₁ (length q₀) 0 ≡ x
+      top = ap (λ (q : List ℕ). get_or q (length q₀) 0) is ∙ get_or_push q₀ x 0 (length q₀) refl
+
       reach : (y : ℕ) → Leads cs x y → Chain (whole cs n) v y
-      reach y (h, k, e, f) = chain_then (F.chained at F.begun l) (chain_from (e ∙ is) (chain_to f (along (whole_tri cs n h m3 k) end)))
+      reach y (h, k, e, f) = chain_then (chain_to top (F.chained (length q₀) (omega (arith, many)))) (chain_from e (chain_to f (along (whole_tri cs n h m3 k) end)))
 
-      chained : (i : ℕ) → start ≤ i → i < length q₂ → (i < length q₁) ⊎ (length q₁ ≤ i) → Chain (whole cs n) v (get_or q₂ i 0)
-      chained i k m (inl o) = chain_to (sym (G.same i o)) (F.chained i k o)
-      chained i k m (inr o) = reach _ (G.led i o m)
+      chained : (i : ℕ) → i < length q₂ → (i < length q₀) ⊎ (length q₀ ≤ i) → Chain (whole cs n) v (get_or q₂ i 0)
+      chained i m (inl o) = chain_to (sym (G.same i o ∙ sym (old i o))) (F.chained i (omega (arith, many)))
+      chained i m (inr o) = reach _ (G.led i o m)
 
-      reached : (y : ℕ) → Marked s₁ y ⊎ Waits q₂ (length q₁) y → Marked s y ⊎ Chain (whole cs n) v y
+      reached : (y : ℕ) → Marked s₁ y ⊎ Waits q₂ (length q₀) y → Marked s y ⊎ Chain (whole cs n) v y
       reached y (inl m) = F.so_far.reached y m
       reached y (inr (i, k, m, e)) = inr (chain_to e (reach _ (G.led i k m)))
 
-      still : (h : ℕ) → h < length cs → Waits q₁ at (get_or cs h 0) → Marked s₂ (get_or cs (next h) 0) ⊎ Waits q₂ (at + 1) (get_or cs h 0)
-      still h k (i, a, b, e) = go (cases_eq i at)
+      still : (h : ℕ) → h < length cs → Waits q₁ 0 (get_or cs h 0) → Marked s₂ (get_or cs (next h) 0) ⊎ Waits q₂ 0 (get_or cs h 0)
+      still h k (i, a, b, e) = go (cases_lt i (length q₀))
         where
-          go : (i ≡ at) ⊎ (i ≡ at → ⊥) → Marked s₂ (get_or cs (next h) 0) ⊎ Waits q₂ (at + 1) (get_or cs h 0)
-          go (inl j) = inl (P h k (sym e ∙ ap (λ (p : ℕ). get_or q₁ p 0) j ∙ sym is))
-          go (inr j) = inr (i, omega arith, omega (arith, G.longer), G.same i b ∙ e)
+          go : (i < length q₀) ⊎ (length q₀ ≤ i) → Marked s₂ (get_or cs (next h) 0) ⊎ Waits q₂ 0 (get_or cs h 0)
+          go (inl l) = inr (i, omega arith, omega (arith, G.longer), G.same i l ∙ sym (old i l) ∙ e)
+          go (inr l) = let j : i ≡ length q₀ = omega (arith, many) in inl (P h k (sym e ∙ ap (λ (p : ℕ). get_or q₁ p 0) j ∙ top))
 
-      pending : (h : ℕ) → h < length cs → Marked s₁ (get_or cs h 0) ⊎ Waits q₂ (length q₁) (get_or cs h 0) → Marked s₂ (get_or cs (next h) 0) ⊎ Waits q₂ (at + 1) (get_or cs h 0)
+      pending : (h : ℕ) → h < length cs → Marked s₁ (get_or cs h 0) ⊎ Waits q₂ (length q₀) (get_or cs h 0) → Marked s₂ (get_or cs (next h) 0) ⊎ Waits q₂ 0 (get_or cs h 0)
       pending h k (inl m) = elim (F.pending h k m) [ inl o ↦ inl (G.kept _ o) | inr w ↦ still h k w ]
       pending h k (inr (i, a, b, e)) = inr (i, omega arith, b, e)
 
-  pub flooding_settled : {start at : ℕ} {s s' : List Bool} {q : List ℕ} → length q ≤ at → Flooding cs n v start at s s' q → Settled cs s'
-  flooding_settled l F h k m = elim (F.pending h k m) [ inl o ↦ o | inr (i, a, b, e) ↦ absurd (omega arith) ]
+  pub flooding_settled : {s s' : List Bool} {q : List ℕ} → q ≡ [] → Flooding cs n v s s' q → Settled cs s'
+  flooding_settled none F h k m = elim (F.pending h k m) [ inl o ↦ o | inr (i, a, b, e) ↦ absurd (omega (arith, ap length none)) ]
 
-  pub flooding_all : {start at : ℕ} {s s' : List Bool} {q : List ℕ} → v < length s → Flooding cs n v start at (set s v true) s' q → Flooded cs n v s s'
+  pub flooding_all : {s s' : List Bool} {q : List ℕ} → v < length s → Flooding cs n v (set s v true) s' q → Flooded cs n v s s'
   flooding_all {s = s} {s' = s'} l F =
       record { kept = λ y m. F.so_far.kept y (mark_kept s v y l m); root = F.so_far.root; reached = λ y m. go y (F.so_far.reached y m) }
     where

@@ -4,7 +4,6 @@ pub mod Flats
 pub mod Floods
 pub mod Found
 pub mod Marks
-pub mod Refilled
 pub mod Rings
 pub mod Rules
 pub mod Surveys

@@ -7,7 +7,7 @@ use Rattle.surface.specs.Surface.{next}
 use Rattle.surface.proofs.Tris.{next_cases}
 use Rattle.gathering.specs.Limits.{Numbered}
 use Rattle.judging.specs.Chains.{Chained, Waiting, Standing}
-use Rattle.judging.specs.Sides.{Marks, MarkedSide, Marking}
+use Rattle.judging.specs.Sides.{Marks, MarkedSide, MarkedAt, Marking}
 use Rattle.judging.proofs.Chains.{wait_start, wait_step, stand_start, stand_step}
 
 pub next_inside : (n h : ℕ) → n % 3 ≡ 0 → h < n → next h < n
@@ -77,3 +77,6 @@ module _ {cs : List ℕ} {n : ℕ} {last link : List (Option ℕ)} (C : Chained 
           marks_real = record { real = λ x g e. real x g e (ℕ_discrete x end) };
           passed = λ k l e. passed k l e (cases_order k h);
         }
+
+pub marking_end : (cs : List ℕ) (u : ℕ) (marks : List (Option ℕ)) → Marking cs u None marks → MarkedAt cs u marks
+marking_end cs u marks M = record { marks_real = M.marks_real; all = λ h l e. elim (M.passed h l e) [ inl w ↦ absurd w | inr m ↦ m ] }

@@ -1,6 +1,9 @@
 -- What the paired half-edges say of the rules on sides.
-use Rattle.std.proofs.Common.{◌≡◌, ℕ, ◌+◌, ◌/◌, ◌%◌, ◌<◌, ◌≤◌, ◌⊎◌, List, length, get_or, Some, None, Option, sym, refl, ap, ◌∙◌, subst, inl, inr, arith}
+use Rattle.std.proofs.Common.{◌≡◌, ℕ, ◌+◌, ◌/◌, ◌%◌, ◌<◌, ◌≤◌, ◌⊎◌, true, false, List, length, get_or, is_none, Some, None, Option, MatchOption, sym, refl, ap, ◌∙◌, subst, inl, inr, arith}
 use native.Mathlib.Decide.{ℕ_discrete}
+use Rattle.std.proofs.lemmas.Bool.{true≢false, false≢true}
+use Rattle.std.specs.List.{AllWithin, HoldsAt}
+use Rattle.std.specs.Option.{option_map}
 use Rattle.surface.specs.Surface.{next, prev, Tri, Side}
 use Rattle.surface.specs.Closed.{Single}
 use Rattle.surface.specs.Read.{whole}
@@ -128,3 +131,26 @@ module _ {cs : List ℕ} {first twin : List (Option ℕ)} (P : Paired cs first t
             (h, get_or cs h 0, get_or cs (next h) 0, get_or cs (prev h) 0, refl, t, λ (g, c, s). met h None e l g (leads_of cs n threes s));
         below = λ m k (x, a, b, c, q, t, no_side). let (g, f) = all x (omega arith) in no_side (side_met t f);
       }
+
+-- an entry of the table is not empty, or is
+abbrev pub Held : Option ℕ → Type 0
+Held r = is_none r ≡ false
+
+abbrev pub Unheld : Option ℕ → Type 0
+Unheld r = is_none r ≡ true
+
+some_from : (r : Option ℕ) → Held r → (g : ℕ) × (r ≡ Some g)
+some_from None e = absurd (true≢false e)
+some_from (Some g) e = (g, refl)
+
+none_from : (r : Option ℕ) → Unheld r → r ≡ None
+none_from None e = refl
+none_from (Some g) e = absurd (false≢true e)
+
+module _ {cs : List ℕ} {first twin : List (Option ℕ)} (P : Paired cs first twin) (threes : length cs % 3 ≡ 0) (n : ℕ) where
+  -- the first empty entry of the twins, if there is one
+  pub unmet_told : (r : Option ℕ) → MatchOption r (AllWithin Held twin 0 (length twin)) (λ i. (i < length twin) × HoldsAt Unheld twin i × AllWithin Held twin 0 i) →
+      FirstUnmet (whole cs n) (option_map (λ h. h / 3) r)
+  unmet_told None F = unmet_none P threes n (λ h l. some_from (get_or twin h None) (F h None (omega arith) (omega (arith, P.long_twin))))
+  unmet_told (Some h) (l, e, F) =
+      unmet_some P threes n h (omega (arith, P.long_twin)) (none_from (get_or twin h None) (e None)) (λ k m. some_from (get_or twin k None) (F k None (omega arith) m))

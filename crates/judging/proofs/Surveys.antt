@@ -1,7 +1,5 @@
 -- The tables of a closed surface have no empty entry, and what the entries are.
-use Rattle.std.proofs.Common.{◌≡◌, ℕ, ◌+◌, ◌%◌, ◌<◌, true, List, [], ◌∷◌, ◌++◌, length, get_or, is_some, Some, None, Option, sym, refl, ◌∙◌, subst, arith}
-use native.Mathlib.Decide.{ℕ_discrete}
-use Rattle.std.proofs.lemmas.List.{length_push, get_or_push, get_or_append_left}
+use Rattle.std.proofs.Common.{◌≡◌, ℕ, ◌%◌, ◌<◌, true, List, length, get_or, is_some, Some, None, Option, sym, refl, ◌∙◌, subst, arith}
 use Rattle.surface.specs.Surface.{next, Tri, Side}
 use Rattle.surface.specs.Closed.{Matched, AllRinged}
 use Rattle.surface.specs.Read.{whole}
@@ -9,22 +7,6 @@ use Rattle.judging.specs.Chains.{LastBelow, Chained}
 use Rattle.judging.specs.Sides.{Leads, LowestSide, Paired}
 use Rattle.judging.specs.Tables.{Entries, Twins, Outs}
 use Rattle.judging.proofs.Whole.{whole_tri, tri_below, whole_corner, whole_present}
-
--- of the first i entries
-pub record EntriesBelow (table : List (Option ℕ)) (i : ℕ) (held : List ℕ) : Type 0 where
-  pub long : length held ≡ i
-  pub same : (k : ℕ) → k < i → get_or table k None ≡ Some (get_or held k 0)
-
-pub entries_none : (table : List (Option ℕ)) (held : List ℕ) → held ≡ [] → EntriesBelow table 0 held
-entries_none table held e = subst (EntriesBelow table 0) (sym e) (record { long = refl; same = λ k l. absurd (omega arith) })
-
-pub entries_more : (table : List (Option ℕ)) (i : ℕ) (held held' : List ℕ) (x : ℕ) → EntriesBelow table i held → get_or table i None ≡ Some x → held' ≡ held ++ x ∷ [] →
-    EntriesBelow table (i + 1) held'
-entries_more table i held held' x E e is = subst (EntriesBelow table (i + 1)) (sym is) (record { long = length_push held x ∙ rw E.long refl; same = λ k l. go k l (ℕ_discrete k i) })
-  where
-    go : (k : ℕ) → k < i + 1 → Dec (k ≡ i) → get_or table k None ≡ Some (get_or (held ++ x ∷ []) k 0)
-    go k l (yes p) = rw (get_or_push held x 0 k (E.long ∙ sym p)) (subst (λ (j : ℕ). get_or table j None ≡ Some x) (sym p) e)
-    go k l (no p) = rw (get_or_append_left held (x ∷ []) 0 k (omega (arith, E.long))) (E.same k (omega arith))
 
 module _ (cs : List ℕ) (n : ℕ) (threes : length cs % 3 ≡ 0) where
   met : (a b : ℕ) (r : Option ℕ) → LowestSide cs a b r → Side (whole cs n) a b → is_some r ≡ true

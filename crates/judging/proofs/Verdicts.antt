@@ -1,5 +1,5 @@
 -- From the tests to the verdict.
-use Rattle.std.proofs.Common.{◌≡◌, ℕ, ◌*◌, ◌/◌, ◌%◌, ◌<◌, Bool, true, false, eqb, List, length, get_or, pos, ◌+ℤ◌, ◌-ℤ◌, Some, None, sym, ap, ◌∙◌, subst, arith}
+use Rattle.std.proofs.Common.{◌≡◌, ℕ, ◌*◌, ◌/◌, ◌%◌, ◌<◌, Bool, true, false, eqb, List, length, get_or, pos, ◌+ℤ◌, ◌-ℤ◌, Some, None, Err, sym, ap, ◌∙◌, subst, arith}
 use Rattle.std.proofs.lemmas.Bool.{eqb-false}
 use Rattle.surface.specs.Surface.{Surface, next, prev, Within}
 use Rattle.surface.specs.Closed.{Closed}
@@ -14,10 +14,9 @@ use Rattle.judging.specs.Verdict.{Counted, FirstFlaw, JudgedSurface}
 use Rattle.judging.specs.declared.verdict.Flaw.{Flaw}
 use Rattle.judging.specs.declared.verdict.Flaw.TheVariants.{NoTriangle, SideTwice, SideUnmet, NoRing, ZeroNormal}
 use Rattle.judging.specs.declared.verdict.Counts.{Counts}
-use Rattle.judging.specs.declared.verdict.Verdict.TheVariants.{Refused}
 use Rattle.judging.proofs.Whole.{whole_tri, tri_below, whole_present, present_below, whole_alive, alive_below}
 
-pub refused : (S : Surface) (P : ℕ → Vector) (T V : ℕ) (f : Flaw) → 0 < T → FirstFlaw S P (Some f) → JudgedSurface S P T V (Refused f)
+pub refused : (S : Surface) (P : ℕ → Vector) (T V : ℕ) (f : Flaw) → 0 < T → FirstFlaw S P (Some f) → JudgedSurface S P T V (Err f)
 refused S P T V NoTriangle l r = absurd r
 refused S P T V (SideTwice t) l r = (l, r)
 refused S P T V (SideUnmet t) l (a, b) = (l, a, b)

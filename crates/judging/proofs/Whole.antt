@@ -1,9 +1,11 @@
 -- What is live in the surface of all corners, and its triangles by their corners.
-use Rattle.std.proofs.Common.{◌≡◌, ℕ, ◌/◌, ◌%◌, ◌<◌, ◌≤◌, true, false, ◌⊎◌, List, length, get_or, replicate, sym, refl, ◌∙◌, inl, inr, arith}
+use Rattle.std.proofs.Common.{◌≡◌, ℕ, ◌/◌, ◌%◌, ◌<◌, ◌≤◌, true, false, ◌⊎◌, List, length, get_or, replicate, Some, None, Option, MatchOption, sym, refl, ◌∙◌, inl, inr, arith}
 use Rattle.std.proofs.lemmas.List.{length-replicate, get_or-replicate, get_or_past}
 use Rattle.std.proofs.lemmas.Bool.{cases_lt, both_ways}
-use Rattle.surface.specs.Surface.{Tri, next, prev}
+use Rattle.surface.specs.Surface.{Surface, Tri, next, prev}
+use Rattle.surface.specs.Ring.{Ringed}
 use Rattle.surface.specs.Read.{read, whole}
+use Rattle.judging.specs.Rings.{FirstUnringed}
 
 flag_set : (n k : ℕ) → k < n → get_or (replicate n true) k false ≡ true
 flag_set n k l = get_or-replicate n k true false l
@@ -50,3 +52,11 @@ pub tri_below : {h a b c : ℕ} (cs : List ℕ) (n : ℕ) → length cs % 3 ≡ 
 tri_below {h} cs n m t =
     let l : h / 3 < length cs / 3 = alive_below cs n (h / 3) t.lives in
     (omega arith, sym (whole_corner cs n h) ∙ t.from, sym (whole_corner cs n (next h)) ∙ t.to, sym (whole_corner cs n (prev h)) ∙ t.third)
+
+-- what a search of the first m vertices for one without a ring tells
+abbrev pub Searched : Surface → ℕ → Option ℕ → Type 0
+Searched S m r = MatchOption r ((k : ℕ) → 0 ≤ k → k < m → Ringed S k) (λ i. (0 ≤ i) × (i < m) × (Ringed S i → ⊥) × ((k : ℕ) → 0 ≤ k → k < i → Ringed S k))
+
+pub unringed_told : (cs : List ℕ) (n m : ℕ) → m ≡ n → (r : Option ℕ) → Searched (whole cs n) m r → FirstUnringed (whole cs n) r
+unringed_told cs n m e None all = λ v p. all v (omega arith) (omega (arith, present_below cs n v p))
+unringed_told cs n m e (Some v) (_, l, not, all) = record { here = (whole_present cs n v (omega arith), not); below = λ u k (_, n). n (all u (omega arith) k) }

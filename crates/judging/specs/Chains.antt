@@ -32,3 +32,12 @@ Standing cs v (Some h) = (h < length cs) × (slice_index cs h ≡ v)
 abbrev pub below : Option ℕ → ℕ
 below None = 0
 below (Some h) = suc h
+
+-- each half-edge is linked to one below it
+abbrev pub Descending : List (Option ℕ) → Type 0
+Descending link = (h : ℕ) → h < length link → below (slice_index_or link h None) ≤ h
+
+-- where the walk goes on from r
+abbrev pub linked : List (Option ℕ) → Option ℕ → Option ℕ
+linked link None = None
+linked link (Some h) = slice_index_or link h None

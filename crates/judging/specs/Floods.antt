@@ -1,5 +1,6 @@
--- Flooding a surface from vertex to vertex along its sides. The seen vertices are marked, and each of them stands in a queue.
-use Rattle.std.specs.Prelude.{◌≡◌, ℕ, ◌<◌, ◌≤◌, Bool, true, false, ◌⊎◌, List, length, get_or, Option, slice_index, slice_index_or}
+-- Flooding a surface from vertex to vertex along its sides. The seen vertices are marked, and those that sides are still to be
+-- followed from stand in a list.
+use Rattle.std.specs.Prelude.{◌≡◌, ℕ, ◌+◌, ◌<◌, ◌≤◌, Bool, true, false, ◌⊎◌, List, length, get_or, Option, slice_index, slice_index_or}
 use Rattle.surface.specs.Surface.{next}
 use Rattle.surface.specs.Euler.{count}
 use Rattle.surface.specs.Read.{whole}
@@ -14,31 +15,32 @@ Marked seen v = slice_index_or seen v false ≡ true
 abbrev pub marked : List Bool → ℕ → ℕ
 marked seen n = count (λ v. get_or seen v false) n
 
--- v stands in the queue, at place k or later
+-- v stands in the list, at place k or later
 abbrev pub Waits : List ℕ → ℕ → ℕ → Type 0
-Waits queue k v = (i : ℕ) × (k ≤ i) × (i < length queue) × (slice_index queue i ≡ v)
+Waits list k v = (i : ℕ) × (k ≤ i) × (i < length list) × (slice_index list i ≡ v)
 
 -- a side leads from x to y
 abbrev pub Leads : List ℕ → ℕ → ℕ → Type 0
 Leads cs x y = (h : ℕ) × (h < length cs) × (slice_index cs h ≡ x) × (slice_index cs (next h) ≡ y)
 
--- of n vertices as many stand in the queue as are seen
-pub record Level (n : ℕ) (seen : List Bool) (queue : List ℕ) : Type 0 where
+-- of n vertices no more stand in the list than are seen
+pub record Level (n : ℕ) (seen : List Bool) (list : List ℕ) : Type 0 where
   pub flags : length seen ≡ n
-  pub level : length queue ≡ marked seen n
-  pub below : (i : ℕ) → i < length queue → slice_index queue i < n
+  pub level : length list ≤ marked seen n
+  pub below : (i : ℕ) → i < length list → slice_index list i < n
 
 -- each side from a seen vertex leads to a seen vertex
 abbrev pub Settled : List ℕ → List Bool → Type 0
 Settled cs seen = (h : ℕ) → h < length cs → Marked seen (slice_index cs h) → Marked seen (slice_index cs (next h))
 
--- seen and queue have grown to seen' and queue' by ends of sides from x
-pub record Grown (cs : List ℕ) (x : ℕ) (seen : List Bool) (queue : List ℕ) (seen' : List Bool) (queue' : List ℕ) : Type 0 where
+-- of n vertices, seen and list have grown to seen' and list' by the same ends of sides from x
+pub record Grown (cs : List ℕ) (n x : ℕ) (seen : List Bool) (list : List ℕ) (seen' : List Bool) (list' : List ℕ) : Type 0 where
   pub kept : (v : ℕ) → Marked seen v → Marked seen' v
-  pub longer : length queue ≤ length queue'
-  pub same : (i : ℕ) → i < length queue → slice_index queue' i ≡ slice_index queue i
-  pub listed : (v : ℕ) → Marked seen' v → Marked seen v ⊎ Waits queue' (length queue) v
-  pub led : (i : ℕ) → length queue ≤ i → i < length queue' → Leads cs x (slice_index queue' i)
+  pub longer : length list ≤ length list'
+  pub as_many : length list' + marked seen n ≡ length list + marked seen' n
+  pub same : (i : ℕ) → i < length list → slice_index list' i ≡ slice_index list i
+  pub listed : (v : ℕ) → Marked seen' v → Marked seen v ⊎ Waits list' (length list) v
+  pub led : (i : ℕ) → length list ≤ i → i < length list' → Leads cs x (slice_index list' i)
 
 -- each side from x leads to a seen vertex
 abbrev pub Spread : List ℕ → ℕ → List Bool → Type 0
@@ -57,13 +59,11 @@ pub record Flooded (cs : List ℕ) (n v : ℕ) (seen seen' : List Bool) : Type 0
   pub root : Marked seen' v
   pub reached : (y : ℕ) → Marked seen' y → Marked seen y ⊎ Chain (whole cs n) v y
 
--- while a flood from v goes on: its vertices stand in the queue from place `start` on, and those from place `at` on have yet to
--- be spread from
-pub record Flooding (cs : List ℕ) (n v start at : ℕ) (seen seen' : List Bool) (queue : List ℕ) : Type 0 where
+-- while a flood from v goes on: its vertices that have yet to be spread from stand in the list
+pub record Flooding (cs : List ℕ) (n v : ℕ) (seen seen' : List Bool) (list : List ℕ) : Type 0 where
   pub so_far : Flooded cs n v seen seen'
-  pub begun : start ≤ at
-  pub chained : (i : ℕ) → start ≤ i → i < length queue → Chain (whole cs n) v (slice_index queue i)
-  pub pending : (h : ℕ) → h < length cs → Marked seen' (slice_index cs h) → Marked seen' (slice_index cs (next h)) ⊎ Waits queue at (slice_index cs h)
+  pub chained : (i : ℕ) → i < length list → Chain (whole cs n) v (slice_index list i)
+  pub pending : (h : ℕ) → h < length cs → Marked seen' (slice_index cs h) → Marked seen' (slice_index cs (next h)) ⊎ Waits list 0 (slice_index cs h)
 
 -- k pieces are found, and all vertices below i are seen
 pub record Found (cs : List ℕ) (n i k : ℕ) (seen : List Bool) : Type 0 where

@@ -6,3 +6,4 @@ pub mod Sides
 pub mod Rings
 pub mod Floods
 pub mod Tables
+pub mod Props

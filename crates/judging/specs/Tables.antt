@@ -1,12 +1,10 @@
 -- The tables of a surveyed surface.
-use Rattle.std.specs.Prelude.{◌≡◌, ℕ, ◌<◌, List, length, Some, None, vec_items, Option, slice_index, slice_index_or}
+use Rattle.std.specs.Prelude.{◌≡◌, ℕ, ◌<◌, List, length, Some, None, Ok, vec_items, Option, slice_index, slice_index_or}
 use Rattle.surface.specs.Surface.{Surface, next}
 use Rattle.gathering.specs.Model.{surface_of}
 use Rattle.geometry.specs.declared.Position.{Position}
 use Rattle.judging.specs.Verdict.{Judged}
-use Rattle.judging.specs.declared.tables.Survey.{Survey}
-use Rattle.judging.specs.declared.tables.Survey.TheVariants.{Closed, Flawed}
-use Rattle.judging.specs.declared.verdict.Verdict.TheVariants.{Accepted, Refused}
+use Rattle.judging.specs.declared.tables.Tables.{Tables}
 
 -- what the entries of the table hold
 pub record Entries (table : List (Option ℕ)) (held : List ℕ) : Type 0 where
@@ -26,10 +24,9 @@ pub record Outs (S : Surface) (m n : ℕ) (out : List ℕ) : Type 0 where
   pub inside : (v : ℕ) → v < n → slice_index out v < m
   pub from : (v : ℕ) → v < n → S.corner (slice_index out v) ≡ v
 
--- the first rule that the surface breaks, or its counts and its tables
-abbrev pub Surveyed : List Position → List ℕ → Survey → Type 0
-Surveyed ps cs (Flawed f) = Judged ps cs (Refused f)
-Surveyed ps cs (Closed t) =
-    Judged ps cs (Accepted t.counts)
+-- the surface is closed, with these counts and tables
+abbrev pub Surveyed : List Position → List ℕ → Tables → Type 0
+Surveyed ps cs t =
+    Judged ps cs (Ok t.counts)
     × Twins (surface_of ps cs) (length cs) (vec_items t.twin)
     × Outs (surface_of ps cs) (length cs) (length ps) (vec_items t.out)

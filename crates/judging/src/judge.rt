@@ -1,25 +1,23 @@
 //! Judging a gathering.
-ghost use Rattle.std.specs.Prelude.{◌≡◌, ◌*◌, ◌/◌, ◌%◌, ◌<◌, ◌≤◌, length, pos, ◌+ℤ◌, ◌-ℤ◌, IfOk};
-ghost use Rattle.judging.specs.Chains.{Chained};
+ghost use Rattle.std.specs.Prelude.{◌≡◌, ◌*◌, ◌/◌, ◌%◌, ◌<◌, ◌≤◌, length, pos, ◌+ℤ◌, ◌-ℤ◌, Ok, IfErr, IfOk, vec_len};
 ghost use Rattle.gathering.specs.Limits.{Numbered, Differing};
 ghost use Rattle.gathering.specs.Model.{positions as positions_of, corners as corners_of, point_of, surface_of};
-ghost use Rattle.judging.specs.Sides.{Paired};
 ghost use Rattle.judging.specs.Tables.{Surveyed};
-ghost use Rattle.judging.specs.Verdict.{FirstFlaw, Judged};
+ghost use Rattle.judging.specs.Verdict.{FirstFlaw, Judged, WhyNot};
 
-use crate::tables::{Survey, Tables};
-use crate::verdict::{Counts, Flaw, Verdict};
+use crate::tables::Tables;
+use crate::verdict::{Counts, Flaw, Unjudged};
+use fans::Fans;
 use flats::first_flat;
 use gathering::gathering::Gathering;
 use geometry::Position;
-use pairing::{Chains, Pairs, chains_of, entries_of, pairs_of};
-use pieces::count_pieces;
-use rings::first_unringed;
-use rules::{first_twice, first_unmet};
-use std::alloc::{AllocError, Global};
+use pairing::{Pairs, entries_of};
+use std::alloc::Global;
 
 mod chains;
+mod fans;
 mod flats;
+mod outgoing;
 mod pairing;
 mod pieces;
 mod rings;
@@ -27,33 +25,21 @@ mod rules;
 mod sides;
 
 /// The first rule that the surface breaks.
-fn first_flaw(
-    positions: &[Position],
-    corners: &[u16],
-    chains: &Chains,
-    pairs: &Pairs,
-) -> Option<Flaw>
-    requires numbered { Numbered corners.now (length positions.now) }
-    requires few { length corners.now ≤ 6144 }
-    requires few_vertices { length positions.now ≤ 1024 }
-    requires threes { length corners.now % 3 ≡ 0 }
-    requires chained { Chained corners.now (length positions.now) chains.now.last.items chains.now.link.items }
-    requires paired { Paired corners.now pairs.now.first.items pairs.now.twin.items }
-    ensures first { FirstFlaw (surface_of positions.now corners.now) (point_of positions.now) result }
+fn first_flaw(positions: &[Position], pairs: &Pairs) -> Option<Flaw>
+    requires vertices { vec_len pairs.now.fans.last ≡ length positions.now }
+    ensures first { FirstFlaw (surface_of positions.now pairs.now.fans.corners.now) (point_of positions.now) result }
 {
-    if let Some(t) = first_twice(corners, &pairs.first, &pairs.twin) {
+    if let Some(t) = pairs.first_twice() {
         return Some(Flaw::SideTwice(t));
     }
-    if let Some(t) = first_unmet(corners, &pairs.first, &pairs.twin) {
+    if let Some(t) = pairs.first_unmet() {
         return Some(Flaw::SideUnmet(t));
     }
-    if let Some(v) = first_unringed(corners, &chains.last, &chains.link, &pairs.twin) {
+    if let Some(v) = pairs.first_unringed() {
         return Some(Flaw::NoRing(v));
     }
-    match first_flat(positions, corners) {
-        Some(t) => Some(Flaw::ZeroNormal(t)),
-        None => None,
-    }
+    let t = first_flat(positions, pairs.fans.corners)?;
+    Some(Flaw::ZeroNormal(t))
 }
 
 /// The counts of a closed surface of `n` vertices and `m` triangles: three unordered sides to two triangles.
@@ -79,39 +65,37 @@ pub(crate) fn survey_of(
     heap: Global,
     positions: &[Position],
     corners: &[u16],
-) -> Result<Survey, AllocError>
+) -> Result<Tables, Unjudged>
     requires numbered { Numbered corners.now (length positions.now) }
     requires differing { Differing corners.now }
     requires few { length corners.now ≤ 6144 }
     requires few_vertices { length positions.now ≤ 1024 }
     requires threes { length corners.now % 3 ≡ 0 }
-    ensures surveyed { IfOk result (λ s. Surveyed positions.now corners.now s) }
+    ensures surveyed { IfOk result (λ t. Surveyed positions.now corners.now t) }
+    ensures why_not { IfErr result (λ u. WhyNot positions.now corners.now u) }
 {
     if corners.is_empty() {
-        return Ok(Survey::Flawed(Flaw::NoTriangle));
+        return Err(Unjudged::Flawed(Flaw::NoTriangle));
     }
     let n = positions.len();
-    let chains = chains_of(heap, corners, n)?;
-    let pairs = pairs_of(heap, corners, &chains.last, &chains.link)?;
-    if let Some(flaw) = first_flaw(positions, corners, &chains, &pairs) {
-        return Ok(Survey::Flawed(flaw));
+    let pairs = Pairs::new(heap, Fans::new(heap, corners, n)?)?;
+    if let Some(flaw) = first_flaw(positions, &pairs) {
+        return Err(Unjudged::Flawed(flaw));
     }
-    let pieces = count_pieces(heap, corners, &chains.last, &chains.link)?;
+    let pieces = pairs.fans.count_pieces(heap)?;
     let twin = entries_of(heap, &pairs.twin)?;
-    let out = entries_of(heap, &chains.last)?;
-    Ok(Survey::Closed(Tables {
+    let out = entries_of(heap, &pairs.fans.last)?;
+    Ok(Tables {
         counts: counts(n, corners.len() / 3, pieces),
         twin,
         out,
-    }))
+    })
 }
 
-/// Whether the gathered triangles form a closed surface with no zero normal, and its counts if they do.
-pub fn judge(heap: Global, gathering: &Gathering) -> Result<Verdict, AllocError>
-    ensures verdict { IfOk result (λ v. Judged (positions_of gathering.now) (corners_of gathering.now) v) }
+/// Judges whether the gathered triangles form a closed surface with no zero normal, and counts what it has.
+pub fn judge(heap: Global, gathering: &Gathering) -> Result<Counts, Unjudged>
+    ensures accepted { IfOk result (λ n. Judged (positions_of gathering.now) (corners_of gathering.now) (Ok n)) }
+    ensures why_not { IfErr result (λ u. WhyNot (positions_of gathering.now) (corners_of gathering.now) u) }
 {
-    match survey_of(heap, gathering.positions(), gathering.corners())? {
-        Survey::Closed(tables) => Ok(Verdict::Accepted(tables.counts)),
-        Survey::Flawed(flaw) => Ok(Verdict::Refused(flaw)),
-    }
+    Ok(survey_of(heap, gathering.positions(), gathering.corners())?.counts)
 }

@@ -1,5 +1,5 @@
 //! What surveying a gathering answers.
-use crate::verdict::{Counts, Flaw};
+use crate::verdict::Counts;
 
 /// A closed surface: its counts and its half-edges.
 #[derive(Drop)]
@@ -9,10 +9,4 @@ pub struct Tables {
     pub twin: Vec<u16>,
     // by vertex: a half-edge that begins there
     pub out: Vec<u16>,
-}
-
-#[derive(Drop)]
-pub enum Survey {
-    Closed(Tables),
-    Flawed(Flaw),
 }

@@ -1,6 +1,9 @@
 //! What judging a gathering answers.
 ghost use Rattle.std.specs.Prelude.{◌≡◌};
 ghost use Rattle.judging.specs.Numbers.{flaw_number, flaw_place};
+ghost use Rattle.judging.specs.declared.verdict.Unjudged.TheVariants.{NoMemory};
+
+use std::alloc::AllocError;
 
 /// The counts of a closed surface.
 #[derive(Clone, Copy)]
@@ -11,12 +14,6 @@ pub struct Counts {
     pub pieces: u16,
 }
 
-#[derive(Clone, Copy)]
-pub enum Verdict {
-    Accepted(Counts),
-    Refused(Flaw),
-}
-
 /// The first rule that a gathered surface breaks, with the lowest triangle or vertex concerned.
 #[derive(Clone, Copy)]
 pub enum Flaw {
@@ -25,6 +22,21 @@ pub enum Flaw {
     SideUnmet(u16),
     NoRing(u16),
     ZeroNormal(u16),
+}
+
+/// Why judging answers no counts.
+#[derive(Clone, Copy)]
+pub enum Unjudged {
+    Flawed(Flaw),
+    NoMemory,
+}
+
+impl From<AllocError> for Unjudged {
+    ghost from_gives = { λ _ u. u ≡ NoMemory };
+
+    fn from(_e: AllocError) -> Unjudged {
+        Unjudged::NoMemory
+    }
 }
 
 impl Flaw {
@@ -41,6 +53,7 @@ impl Flaw {
     }
 
     /// The lowest triangle or vertex concerned, 0 where there is none.
+    // Kept: docs/REFUSALS.md gives each refusal on opening a place, and 0 to the one that concerns none.
     pub fn place(self) -> u16
         ensures value { result ≡ flaw_place self }
     {

@@ -1,4 +1,5 @@
 pub mod Numbers
+pub mod Refusals
 pub mod Book
 pub mod Choice
 pub mod Ledger

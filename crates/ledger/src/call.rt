@@ -2,6 +2,8 @@
 ghost use Rattle.std.specs.Prelude.{◌≡◌};
 ghost use Rattle.ledger.specs.Numbers.{number as number_of};
 
+use mesh::mesh::permits::CollapseRefusal;
+
 /// A call on an opened surface.
 #[derive(Clone, Copy)]
 pub enum Call {
@@ -21,19 +23,34 @@ pub enum Call {
 #[derive(Clone, Copy)]
 pub enum Refusal {
     /// The two vertices are not joined by a side.
-    NoSide,
+    NoSide = 13,
     /// The outcome of the collapse is no closed surface.
-    NotClosed,
+    NotClosed = 14,
     /// A triangle that the collapse moves would be folded over.
-    Folds,
+    Folds = 15,
     /// No collapse is permitted.
-    NonePermitted,
+    NonePermitted = 16,
     /// No collapse is done.
-    NothingDone,
+    NothingDone = 17,
     /// No collapse lies ahead.
-    NothingAhead,
+    NothingAhead = 18,
     /// The log has no such position.
-    BeyondLog,
+    BeyondLog = 19,
+}
+
+/// Why a vertex is not collapsed to another, as a refusal of a call.
+impl From<CollapseRefusal> for Refusal {
+    ghost use Rattle.ledger.specs.Refusals.{refusal_of};
+
+    ghost from_gives = { λ why refusal. refusal ≡ refusal_of why };
+
+    fn from(why: CollapseRefusal) -> Refusal {
+        match why {
+            CollapseRefusal::NoSide => Refusal::NoSide,
+            CollapseRefusal::NotClosed => Refusal::NotClosed,
+            CollapseRefusal::Folds => Refusal::Folds,
+        }
+    }
 }
 
 impl Refusal {
@@ -41,15 +58,7 @@ impl Refusal {
     pub fn number(self) -> u8
         ensures value { result ≡ number_of self }
     {
-        match self {
-            Refusal::NoSide => 13,
-            Refusal::NotClosed => 14,
-            Refusal::Folds => 15,
-            Refusal::NonePermitted => 16,
-            Refusal::NothingDone => 17,
-            Refusal::NothingAhead => 18,
-            Refusal::BeyondLog => 19,
-        }
+        self as u8
     }
 }
 

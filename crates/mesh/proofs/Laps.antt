@@ -81,7 +81,7 @@ module _ {S : Surface} (R : Closed S) {f : ℕ → ℕ} (T : Turns S f) {v : ℕ
   follows : {h g : ℕ} → Turn S v h g → f h ≡ g
   follows t = let (a, b, c, s, _) = t in turn_one R (turns_at T s) t
 
-  run_to : (k i : ℕ) → i + k < length l → steps f k (get_or l i 0) ≡ get_or l (i + k) 0
+  pub run_to : (k i : ℕ) → i + k < length l → steps f k (get_or l i 0) ≡ get_or l (i + k) 0
   unfolding steps
   run_to zero i p = ap (λ n. get_or l n 0) (omega arith)
   run_to (suc k) i p =
@@ -89,7 +89,7 @@ module _ {S : Surface} (R : Closed S) {f : ℕ → ℕ} (T : Turns S f) {v : ℕ
       ap (steps f k) (follows (G.turns i (omega arith))) ∙ run_to k (suc i) (omega arith) ∙ ap (λ n. get_or l n 0) (sym q)
 
   -- to the end of the list, and on to its first
-  run_out : (i : ℕ) → i < length l → steps f (length l - i) (get_or l i 0) ≡ get_or l 0 0
+  pub run_out : (i : ℕ) → i < length l → steps f (length l - i) (get_or l i 0) ≡ get_or l 0 0
   run_out i p =
       let k : ℕ = length l - 1 - i in
       let q : length l - i ≡ suc k = omega arith in
@@ -97,7 +97,7 @@ module _ {S : Surface} (R : Closed S) {f : ℕ → ℕ} (T : Turns S f) {v : ℕ
       ap (λ n. steps f n (get_or l i 0)) q ∙ steps_more f k (get_or l i 0) ∙ ap f (run_to k i (omega arith) ∙ ap (λ n. get_or l n 0) r) ∙ follows G.closing
 
   -- round to place j by way of the end
-  run_round : (i j : ℕ) → i < length l → j < length l → steps f ((length l - i) + j) (get_or l i 0) ≡ get_or l j 0
+  pub run_round : (i j : ℕ) → i < length l → j < length l → steps f ((length l - i) + j) (get_or l i 0) ≡ get_or l j 0
   run_round i j p q = steps_add f (length l - i) j (get_or l i 0) ∙ ap (steps f j) (run_out i p) ∙ run_to j 0 (omega arith) ∙ ap (λ n. get_or l n 0) (omega arith)
 
   pub lap_of : {o a b : ℕ} → Tri S o v a b → Lap S f v o (length l)

@@ -18,6 +18,8 @@ pub mod Openings
 pub mod Reading
 pub mod Laps
 pub mod Round
+pub mod Ways
+pub mod Rings
 pub mod LinkTest
 pub mod Polynomials
 pub mod FoldTest

@@ -11,7 +11,7 @@ use Rattle.surface.proofs.FromRings.{sealed}
 use Rattle.surface.proofs.Threes.{One-of, those}
 use Rattle.surface.proofs.LocalTest.{local_test}
 use Rattle.mesh.specs.Held.{opposite}
-use Rattle.mesh.specs.Reads.{Leads, OnlyCommon, Exactly}
+use Rattle.mesh.specs.Reads.{Leads, OnlyCommon, Clear, Exactly}
 use Rattle.mesh.specs.Model.{held}
 use Rattle.mesh.specs.declared.halfedges.HalfEdges.{HalfEdges}
 use Rattle.mesh.proofs.Reading.{opposite_tri}
@@ -34,6 +34,10 @@ pub exactly_false : {P : Type 0} (b : Bool) → b ≡ false → (P → ⊥) → 
 exactly_false true i f = absurd (both_ways true i refl)
 exactly_false false i f = f
 
+pub exactly_iff : {P Q : Type 0} (b : Bool) → (P → Q) → (Q → P) → Exactly b P → Exactly b Q
+exactly_iff true f g x = f x
+exactly_iff false f g x = λ q. x (g q)
+
 -- the answer of a search for a half-edge
 pub leads_none : {S : Surface} {u w : ℕ} (o : Option ℕ) → is_some o ≡ false → Leads S u w o → Side S u w → ⊥
 leads_none None i x = x
@@ -43,16 +47,13 @@ pub leads_some : {S : Surface} {u w : ℕ} (o : Option ℕ) → is_some o ≡ tr
 leads_some None i x = absurd (both_ways false refl i)
 leads_some (Some e) i (c, t) = (e, c, t)
 
--- the half-edge g leads to no neighbour of w but a and b
-abbrev pub Clear : Surface → ℕ → ℕ → ℕ → ℕ → Type 0
-Clear S w a b g = Side S w (S.corner (next g)) → (S.corner (next g) ≡ a) ⊎ (S.corner (next g) ≡ b)
-
+-- each half-edge at u is clear
 pub only_from : {S : Surface} {u w a b : ℕ} → ((g x y : ℕ) → Tri S g u x y → Clear S w a b g) → OnlyCommon S u w a b
 only_from f c (g, y, t) (k, z, s) =
     elim (f g c y t (k, z, moved refl (sym t.to) refl s)) [ inl i ↦ inl (sym t.to ∙ i) | inr i ↦ inr (sym t.to ∙ i) ]
 
-pub not_only : {S : Surface} {u w a b c x y : ℕ} {h : ℕ} → Tri S h u x y → c ≡ S.corner (next h) → c ≢ a → c ≢ b → Side S w c → OnlyCommon S u w a b → ⊥
-not_only {h = h} t i n m s o = elim (o _ (h, _, moved refl (sym t.to ∙ sym i) refl t) s) [ inl j ↦ n j | inr j ↦ m j ]
+pub only_to : {S : Surface} {u w a b : ℕ} → OnlyCommon S u w a b → (g x y : ℕ) → Tri S g u x y → Clear S w a b g
+only_to o g x y t = o _ (g, y, moved refl (sym t.to) refl t)
 
 -- three steps round v, over the triangles (v, x, y), (v, y, z) and (v, z, n), come to a half-edge that leads to n
 module _ (e : HalfEdges) {v o p q r x y : ℕ} (t : Tri (held e) o v x y) (fo : Follows e o p) (fp : Follows e p q) (fq : Follows e q r) where

@@ -1,5 +1,5 @@
 -- What a mesh keeps to when it moves along its log.
-use Rattle.std.proofs.Common.{◌≡◌, ℕ, suc, ◌+◌, ◌-◌, ◌/◌, ◌<◌, ◌≤◌, true, List, [], ◌∷◌, ◌++◌, length, get_or, take, vec_items, vec_len, vec_capacity, sym, ap, ◌∙◌, subst, arith}
+use Rattle.std.proofs.Common.{◌≡◌, ℕ, suc, ◌+◌, ◌/◌, ◌<◌, ◌≤◌, true, List, [], ◌∷◌, ◌++◌, length, get_or, take, vec_items, vec_len, vec_capacity, sym, ap, ◌∙◌, subst, arith}
 use Rattle.std.proofs.lemmas.List.{get_or_read}
 use Rattle.surface.specs.Surface.{Surface, Within}
 use Rattle.surface.specs.Closed.{Closed}
@@ -93,13 +93,7 @@ module _ (m : Mesh) where
     pub noted_vertices : VerticesAre (stage S L' m.position) (vec_items m.edges.vertices)
     noted_vertices = rw (← noted_stage) m.vertices_are
 
-  module _ (some : m.position ≡ 0 → ⊥) where
-    abbrev q : ℕ
-    q = m.position - 1
-
-    back_is : suc q ≡ m.position
-    back_is = omega arith
-
+  module _ (q : ℕ) (back_is : suc q ≡ m.position) where
     D : TwinsDead S L (suc q) (vec_items m.edges.twin)
     D = rw back_is m.twins_dead
 

@@ -11,7 +11,6 @@ use Rattle.gathering.specs.Model.{positions, corners, point_of}
 use Rattle.gathering.specs.declared.gathering.Gathering.{Gathering}
 use Rattle.geometry.specs.declared.Position.{Position}
 use Rattle.judging.specs.Tables.{Twins, Outs, Surveyed}
-use Rattle.judging.specs.declared.tables.Survey.TheVariants.{Closed as Sound}
 use Rattle.judging.specs.declared.tables.Tables.{Tables}
 use Rattle.mesh.specs.Held.{opposite, TwinsLive, OutLive}
 use Rattle.mesh.specs.Kept.{CornersAre, TrianglesAre, VerticesAre, TwinsDead, OutDead}
@@ -42,7 +41,7 @@ module _ (cs : List ℕ) (n : ℕ) (threes : length cs % 3 ≡ 0) where
   outs_live out O v l = let i = (whole_within cs n).vertices v l in (lives (get_or out v 0) (O.inside v i), O.from v i)
 
 -- a gathering that is found closed
-pub tabled : (g : Gathering) (t : Tables) → Surveyed (positions g) (corners g) (Sound t) →
+pub tabled : (g : Gathering) (t : Tables) → Surveyed (positions g) (corners g) t →
     Tabled (corners g) (length (positions g)) (vec_items t.twin) (vec_items t.out)
 tabled g t (J, T, O) =
     let cs = corners g in

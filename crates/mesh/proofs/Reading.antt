@@ -1,12 +1,14 @@
 -- Surfaces read from lists, entry by entry, and opposite half-edges.
-use Rattle.std.proofs.Common.{◌≡◌, ℕ, ◌/◌, ◌<◌, Bool, true, false, eqb, List, length, get_or, refl, ap, inl, inr}
+use Rattle.std.proofs.Common.{◌≡◌, ℕ, ◌/◌, ◌<◌, Bool, true, false, eqb, List, length, get_or, sym, refl, ap, ◌∙◌, inl, inr}
+use Rattle.std.specs.Bool.{then_some}
 use Rattle.std.proofs.lemmas.Bool.{and_parts, eqb-true, both_ways, cases_lt}
 use Rattle.std.proofs.lemmas.List.{get_or_past}
 use Rattle.surface.specs.Surface.{Surface, next, prev, Tri}
 use Rattle.surface.specs.Ring.{Turn}
 use Rattle.surface.specs.Read.{read}
-use Rattle.surface.proofs.Tris.{next_third, spin2, tri_at, moved}
-use Rattle.mesh.specs.Held.{opposite, TwinsLive}
+use Rattle.surface.proofs.Tris.{next_third, spin2, tri_at, moved, renumber}
+use Rattle.mesh.specs.Held.{opposite, TwinsLive, OutLive}
+use Rattle.mesh.specs.Reads.{Outgoing}
 
 module _ (cs : List ℕ) (ts vs : List Bool) where
   pub corner_read : (h : ℕ) → (read cs ts vs).corner h ≡ get_or cs h 0
@@ -40,3 +42,8 @@ module _ (S : Surface) where
       let t = tri_at S h l in
       let o = opposite_tri (prev h) (get_or twin (prev h) 0) (T (prev h) (spin2 t).lives) in
       (S.corner (next h), S.corner (prev h), _, t, moved (ap S.corner (next_third h)) refl refl o)
+
+-- what is read of the table of outgoing half-edges: an entry where the vertex is live
+pub outgoing_told : (S : Surface) (out : List ℕ) → OutLive S out → (v h : ℕ) (live : Bool) → live ≡ S.present v → h ≡ get_or out v 0 → Outgoing S v (then_some live h)
+outgoing_told S out O v h false i f = λ p. both_ways false refl (i ∙ p)
+outgoing_told S out O v h true i f = let (lives, from) = O v (sym i) in (_, _, renumber (sym f) (moved from refl refl (tri_at S _ lives)))

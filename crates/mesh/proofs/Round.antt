@@ -48,7 +48,7 @@ abbrev pub togo : HalfEdges → ℕ → ℕ → ℕ
 togo e o h = left (on e) o (length (vec_items e.twin)) h
 
 -- each entry of a ring is a half-edge at its vertex
-ring_tri : {S : Surface} {v : ℕ} {l : List ℕ} → Ring S v l → (i : ℕ) → i < length l → (a : ℕ) × (b : ℕ) × Tri S (get_or l i 0) v a b
+pub ring_tri : {S : Surface} {v : ℕ} {l : List ℕ} → Ring S v l → (i : ℕ) → i < length l → (a : ℕ) × (b : ℕ) × Tri S (get_or l i 0) v a b
 ring_tri {S} {v} {l} G i p = go (dec_lt (suc i) (length l))
   where
     go : Dec (suc i < length l) → (a : ℕ) × (b : ℕ) × Tri S (get_or l i 0) v a b
@@ -59,17 +59,22 @@ ring_tri {S} {v} {l} G i p = go (dec_lt (suc i) (length l))
         (a, b, renumber (ap (λ n. get_or l n 0) k) s)
 
 module _ (e : HalfEdges) where
-  pub lap : {v o a b : ℕ} → Tri (held e) o v a b → (n : ℕ) × (n ≤ length (vec_items e.twin)) × Lap (held e) (on e) v o n
-  lap {v} {o} t =
-      let R = closed_held e in
-      let (l, G) = R.ring v (R.known _ _ _ _ t) in
+  -- a ring stands within the lists
+  pub ring_few : {v : ℕ} {l : List ℕ} → Ring (held e) v l → length l ≤ length (vec_items e.twin)
+  ring_few {l = l} G =
       let F = length (vec_items e.twin) in
       let b : length l ≤ count (λ _. true) F =
       distinct_count (λ _. true) F l (λ i p. let (x, y, s) = ring_tri G i p in live_within e (get_or l i 0) s.lives) (λ i p. refl) G.distinct in
-      (length l, omega (arith, count_all F), lap_of R (turns e) G t)
+      omega (arith, count_all F)
+
+  pub lap : {v o a b : ℕ} → Tri (held e) o v a b → (n : ℕ) × (n ≤ length (vec_items e.twin)) × Lap (held e) (on e) v o n
+  lap {v} t =
+      let R = closed_held e in
+      let (l, G) = R.ring v (R.known _ _ _ _ t) in
+      (length l, ring_few G, lap_of R (turns e) G t)
 
   -- what a turn comes to
-  turned : {v h r a b : ℕ} → Tri (held e) h v a b → Follows e h r → on e h ≡ r
+  pub turned : {v h r a b : ℕ} → Tri (held e) h v a b → Follows e h r → on e h ≡ r
   turned {h = h} t s = turn_one (closed_held e) (turns e h t.lives) (s t.lives)
 
   module _ {v o : ℕ} {P : ℕ → Type 0} where

@@ -7,6 +7,8 @@ pub mod Edits
 pub mod Moves
 pub mod Opened
 pub mod Reads
+pub mod Rings
+pub mod Ahead
 pub mod Refusals
 pub mod Calls
 pub mod Laws

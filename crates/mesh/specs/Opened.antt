@@ -4,15 +4,13 @@ use Rattle.surface.specs.Closed.{Closed}
 use Rattle.surface.specs.Read.{whole}
 use Rattle.gathering.specs.Model.{positions, corners}
 use Rattle.gathering.specs.declared.gathering.Gathering.{Gathering}
-use Rattle.judging.specs.Verdict.{Judged}
-use Rattle.judging.specs.declared.verdict.Verdict.TheVariants.{Accepted, Refused as Rejected}
+use Rattle.judging.specs.Verdict.{Judged, WhyNot}
+use Rattle.judging.specs.declared.verdict.Unjudged.{Unjudged}
 use Rattle.mesh.specs.Held.{TwinsLive, OutLive}
 use Rattle.mesh.specs.declared.halfedges.HalfEdges.{HalfEdges}
 use Rattle.mesh.specs.declared.mesh.opening.Opening.{Opening}
 use Rattle.mesh.specs.declared.mesh.opening.Prepared.{Prepared}
 use Rattle.mesh.specs.declared.mesh.opening.Refused.{Refused}
-use Rattle.mesh.specs.declared.mesh.opening.Unopened.{Unopened}
-use Rattle.mesh.specs.declared.mesh.opening.Unopened.TheVariants.{Flawed, NoMemory}
 
 -- the corners and n vertices make a closed surface, of which the other lists are the tables
 pub record Tabled (cs : List ℕ) (n : ℕ) (twin out : List ℕ) : Type 0 where
@@ -32,24 +30,23 @@ pub record AllLive (cs : List ℕ) (n : ℕ) (e : HalfEdges) : Type 0 where
   pub vertices_are : vec_items e.vertices ≡ replicate n true
 
 -- why the gathering is not opened
-abbrev pub Why : Gathering → Unopened → Type 0
-Why g (Flawed f) = Judged (positions g) (corners g) (Rejected f)
-Why g NoMemory = Unit {0}
+abbrev pub Why : Gathering → Unjudged → Type 0
+Why g why = WhyNot (positions g) (corners g) why
 
 -- a closed surface, with its half-edges and an empty log that has room for a record to each vertex
 pub record Ready (g : Gathering) (p : Prepared) : Type 0 where
-  pub judged : Judged (positions g) (corners g) (Accepted p.counts)
+  pub judged : Judged (positions g) (corners g) (Ok p.counts)
   pub edges_live : AllLive (corners g) (length (positions g)) p.edges
   pub log_empty : vec_items p.log ≡ []
   pub log_room : length (positions g) ≤ vec_capacity p.log
 
-abbrev pub Prepares : Gathering → Result Prepared Unopened → Type 0
+abbrev pub Prepares : Gathering → Result Prepared Unjudged → Type 0
 Prepares g (Ok p) = Ready g p
 Prepares g (Err why) = Why g why
 
 -- the gathered surface is accepted, and no collapse is recorded; the ghost facts of a mesh then say what it holds
 pub record Opened (g : Gathering) (o : Opening) : Type 0 where
-  pub judged : Judged (positions g) (corners g) (Accepted o.counts)
+  pub judged : Judged (positions g) (corners g) (Ok o.counts)
   pub positions_are : vec_items o.mesh.positions ≡ positions g
   pub corners_are : vec_items o.mesh.opened ≡ corners g
   pub log_empty : vec_items o.mesh.log ≡ []

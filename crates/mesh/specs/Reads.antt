@@ -17,6 +17,10 @@ Leads S u w (Some e) = (c : ℕ) × Tri S e u w c
 abbrev pub OnlyCommon : Surface → ℕ → ℕ → ℕ → ℕ → Type 0
 OnlyCommon S u w a b = (c : ℕ) → Side S u c → Side S w c → (c ≡ a) ⊎ (c ≡ b)
 
+-- the half-edge h leads to no neighbour of w but a and b
+abbrev pub Clear : Surface → ℕ → ℕ → ℕ → ℕ → Type 0
+Clear S w a b h = Side S w (S.corner (next h)) → (S.corner (next h) ≡ a) ⊎ (S.corner (next h) ≡ b)
+
 -- an answer that is true just where P holds
 abbrev pub Exactly : Bool → Type 0 → Type 0
 Exactly true P = P

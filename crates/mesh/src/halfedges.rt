@@ -9,9 +9,13 @@ mod fold;
 mod link;
 mod making;
 pub mod reads;
+pub mod ring;
+mod turns;
 
+// Kept as a clause of each function: that a half-edge is live is a fact of its number and of the surface as it is just then.
 #[derive(Drop)]
 pub struct HalfEdges {
+    // Kept as lists of their own: an edit rewrites one of them while it reads another, and each fact below is of one list.
     // by half-edge: the vertex at which it begins, and the half-edge that runs opposite
     corners: Vec<u16>,
     twin: Vec<u16>,

@@ -4,7 +4,7 @@
 use anyhow::anyhow;
 use gathering::gathering::Gathering;
 use mesh::mesh::Mesh;
-use mesh::mesh::opening::open;
+use mesh::mesh::opening::{Opening, open};
 
 const OCTAHEDRON: [[u16; 3]; 6] = [
     [20, 10, 10],
@@ -64,11 +64,11 @@ fn gather(
     triangles: &[[u16; 3]],
 ) -> anyhow::Result<Gathering> {
     let mut g = Gathering::new(rt.alloc())?;
-    for v in vertices {
-        let _ = g.vertex(v[0], v[1], v[2]);
+    for [x, y, z] in vertices {
+        let _ = g.vertex(*x, *y, *z);
     }
-    for t in triangles {
-        let _ = g.triangle(t[0], t[1], t[2]);
+    for [a, b, c] in triangles {
+        let _ = g.triangle(*a, *b, *c);
     }
     Ok(g)
 }
@@ -86,55 +86,34 @@ fn join_rings(g: &mut Gathering, i: u16) {
 
 /// Collapses the first side that may be collapsed.
 fn collapse_one(mesh: &mut Mesh, half_edges: u16) -> bool {
-    for h in 0..half_edges {
-        if mesh.edges().is_live(h) {
-            let u = mesh.edges().start(h);
-            let w = mesh.edges().end(h);
-            if mesh.collapse(u, w).is_ok() {
-                return true;
-            }
-        }
-    }
-    false
+    (0..half_edges).any(|h| {
+        let u = mesh.edges().start(h);
+        let w = mesh.edges().end(h);
+        mesh.edges().is_live(h) && mesh.collapse(u, w).is_ok()
+    })
 }
 
 /// How many half-edges differ from how they were gathered.
 fn changed(mesh: &Mesh, corners: &[u16]) -> usize {
-    let mut n = 0usize;
-    for h in 0..corners.len().min(6144) {
-        if mesh.edges().start(h as u16) != corners[h] || !mesh.edges().is_live(h as u16) {
-            n = n.saturating_add(1);
-        }
-    }
-    n
+    (0..6144)
+        .zip(corners)
+        .filter(|(h, v)| mesh.edges().start(*h) != **v || !mesh.edges().is_live(*h))
+        .count()
 }
 
 /// Thins the surface as far as it goes, back and forth again, and tells what it saw.
 fn thin(rt: &HostRuntime, name: &str, gathering: Gathering) -> anyhow::Result<()> {
     let corners = gathering.corners().to_vec(rt.alloc())?;
     let count = corners.len().min(6144) as u16;
-    let mut mesh = match open(rt.alloc(), gathering) {
-        Ok(opening) => opening.mesh,
-        Err(_) => return Err(anyhow!("not opened")),
+    let Ok(Opening { mut mesh, .. }) = open(rt.alloc(), gathering) else {
+        return Err(anyhow!("not opened"));
     };
-    for _ in 0..1024 {
-        if !collapse_one(&mut mesh, count) {
-            break;
-        }
-    }
+    let _ = (0..1024).all(|_| collapse_one(&mut mesh, count));
     let far = mesh.position();
     let thinned = changed(&mesh, &corners);
-    for _ in 0..1024 {
-        if mesh.split().is_none() {
-            break;
-        }
-    }
+    let _ = (0..1024).all(|_| mesh.split().is_some());
     let back = changed(&mesh, &corners);
-    for _ in 0..1024 {
-        if mesh.redo().is_none() {
-            break;
-        }
-    }
+    let _ = (0..1024).all(|_| mesh.redo().is_some());
     let again = changed(&mesh, &corners);
     let end = mesh.position();
     println!(rt;

@@ -25,18 +25,17 @@ module _ (mesh : Mesh) (x : HalfEdges) (same : x ≡ mesh.edges) (u w e f : ℕ)
   pub few : (e < 6144) × (f < 6144)
   few = (low e L.1.lives, low f (opposite_tri (held x) L.1 (O L.1.lives)).1.lives)
 
--- the answer for the record at the position, as it was read from the log
-module _ (mesh : Mesh) (l : List Record) (k : ℕ) (d : Record) (same : l ≡ log mesh) (at : k ≡ mesh.position) (low : k < length l) where
+-- the record r at the position, as it was read from the log
+module _ (mesh : Mesh) (l : List Record) (k : ℕ) (r : Record) (same : l ≡ log mesh) (at : k ≡ mesh.position) (low : k < length l) (is : r ≡ get_or l k r) where
   now_low : mesh.position < length (log mesh)
   now_low = let p = ap length same in omega arith
 
-  read_is : get_or l k d ≡ record_at (log mesh) mesh.position
-  read_is = get_or_default l k d (record { u = 0; w = 0 }) low ∙ ap (λ x. record_at x k) same ∙ ap (record_at (log mesh)) at
+  read_is : r ≡ record_at (log mesh) mesh.position
+  read_is = is ∙ get_or_default l k r (record { u = 0; w = 0 }) low ∙ ap (λ x. record_at x k) same ∙ ap (record_at (log mesh)) at
 
   -- there is a side
-  pub no_side : (Side (surface mesh) (get_or l k d).u (get_or l k d).w → ⊥) → ⊥
-  no_side n = n (subst (λ r. Side (surface mesh) r.u r.w) (sym read_is) (ahead_side mesh now_low))
+  pub no_side : (Side (surface mesh) r.u r.w → ⊥) → ⊥
+  no_side n = n (subst (λ d. Side (surface mesh) d.u d.w) (sym read_is) (ahead_side mesh now_low))
 
-  pub ahead : (e f : ℕ) → Astride (surface mesh) (get_or l k d).u (get_or l k d).w e f →
-      (mesh.position < length (log mesh)) × (get_or l k d ≡ record_at (log mesh) mesh.position) × Astride (surface mesh) (get_or l k d).u (get_or l k d).w e f
+  pub ahead : (e f : ℕ) → Astride (surface mesh) r.u r.w e f → (mesh.position < length (log mesh)) × (r ≡ record_at (log mesh) mesh.position) × Astride (surface mesh) r.u r.w e f
   ahead e f A = (now_low, read_is, A)

@@ -1,5 +1,5 @@
 -- Keys mended near the members of a set, member by member.
-use Rattle.std.proofs.Common.{◌≡◌, ℕ, true, false, ◌⊎◌, List, length, get_or, set, is_some, Some, None, Option, sym, refl, ap, ◌∙◌, subst, inl, inr, length-set}
+use Rattle.std.proofs.Common.{◌≡◌, ℕ, true, false, ◌⊎◌, List, length, get_or, set, is_some, Some, None, Option, sym, refl, ap, ◌∙◌, subst, inl, inr, length-set, Bool}
 use Rattle.std.proofs.lemmas.Bool.{both_ways, cases_eq}
 use Rattle.mesh.specs.Model.{surface}
 use Rattle.mesh.specs.declared.mesh.Mesh.{Mesh}
@@ -8,7 +8,6 @@ use Rattle.queue.specs.declared.keys.Key.{Key}
 use Rattle.gauge.specs.declared.Gauge.{Ghosts}
 use Rattle.opened_surface.specs.Marks.{Marks, Marked, NearMark}
 use Rattle.opened_surface.specs.Mending.{Accounted, Fit, Touches}
-use Rattle.opened_surface.specs.declared.keys.Mending.{Mending}
 use Rattle.opened_surface.proofs.Present.{taken_at, taken_else}
 use Rattle.opened_surface.proofs.Walked.{Step, none, both, weaker, fit_now}
 
@@ -20,7 +19,7 @@ no_members l N x s = go (get_or l x None) refl s
     go None i t = both_ways false refl t
     go (Some k) i t = N x k i
 
-module _ {G C E Z : Type 0} (m : Ghosts G C E Z) (mesh : Mesh) (gauge : G) (how : Mending) (first : Marks) (keys : List (Option (Key C))) where
+module _ {G C E Z : Type 0} (m : Ghosts G C E Z) (mesh : Mesh) (gauge : G) (how : Bool) (first : Marks) (keys : List (Option (Key C))) where
   abbrev pub A : Type 0
   A = Accounted m mesh gauge × Fit m mesh gauge how keys
 

@@ -2,9 +2,7 @@
 use Rattle.std.proofs.Common.{◌≡◌, ℕ, ◌+◌, ◌-◌, ◌<◌, ◌≤◌, List, length, sym, refl, ap, ◌∙◌, subst, arith}
 use Rattle.mesh.specs.Model.{log}
 use Rattle.mesh.specs.declared.record.Record.{Record}
-use Rattle.mesh.specs.declared.mesh.Mesh.{Mesh}
 use Rattle.order.specs.declared.Ordered.{Ghosts as Order}
-use Rattle.queue.specs.declared.Queue.{Queue}
 use Rattle.gauge.specs.declared.Gauge.{Ghosts}
 use Rattle.ledger.specs.Book.{Book}
 use Rattle.ledger.specs.Ledger.{placed_at, Entry, splits, nothing_done, redoes, nothing_ahead, goes, beyond_log}
@@ -12,8 +10,8 @@ use Rattle.ledger.specs.declared.call.Call.TheVariants.{Split, Redo, Go}
 use Rattle.ledger.specs.declared.call.Refusal.TheVariants.{BeyondLog}
 use Rattle.ledger.specs.declared.call.Answer.{Answer}
 use Rattle.ledger.specs.declared.call.Answer.TheVariants.{Went, Refused}
-use Rattle.opened_surface.specs.declared.stale.Stale.{Stale}
 use Rattle.opened_surface.specs.Tied.{book_of, Tied, Follows, Placed}
+use Rattle.opened_surface.specs.declared.thinning.Thinning.{Thinning}
 
 module _ {G C E Z : Type 0} (m : Ghosts G C E Z) (o : Order C) where
   split_one : (s : Z) (b d : Book) (r : Answer C) → Entry m o s b Split r d → 0 < b.position → d ≡ placed_at b (b.position - 1)
@@ -24,58 +22,55 @@ module _ {G C E Z : Type 0} (m : Ghosts G C E Z) (o : Order C) where
   redo_one s b d r (redoes l) p = refl
   redo_one s b d r (nothing_ahead l) p = absurd (omega arith)
 
-  module _ (a : Mesh) (g : G) where
-    pub placed_first : (q : Queue C) (s : Stale) → Tied m o a g q s → (k : ℕ) → k ≡ a.position → Placed m o a g k a g q s
-    placed_first q s K k i = record { book_is = ap (placed_at (book_of a)) (sym i); fixed = refl; tied = K }
+  module _ (x : Thinning G C E Z o) where
+    pub placed_first : Tied m o x → (k : ℕ) → k ≡ x.mesh.position → Placed m o x k x
+    placed_first K k i = record { book_is = ap (placed_at (book_of x.mesh)) (sym i); fixed = refl; tied = K }
 
-    pub placed_at_lem : (b : Mesh) (h : G) (q : Queue C) (s : Stale) (j k : ℕ) → Placed m o a g j b h q s → j ≡ k → Placed m o a g k b h q s
-    placed_at_lem b h q s j k P i = subst (λ n. Placed m o a g n b h q s) i P
+    pub placed_at_lem : (y : Thinning G C E Z o) (j k : ℕ) → Placed m o x j y → j ≡ k → Placed m o x k y
+    placed_at_lem y j k P i = subst (λ n. Placed m o x n y) i P
 
-    module _ (k : ℕ) (b : Mesh) (h : G) (p : Queue C) (s : Stale) (P : Placed m o a g k b h p s) (d : Mesh) (f : G) (q : Queue C) (t : Stale) (r : Answer C) where
+    module _ (k : ℕ) (y : Thinning G C E Z o) (P : Placed m o x k y) (z : Thinning G C E Z o) (r : Answer C) where
       -- one move back
-      pub placed_back : (Tied m o b h p s → Follows m o b h Split r d f q t) → 0 < k → (j : ℕ) → j ≡ k - 1 → Placed m o a g j d f q t
+      pub placed_back : (Tied m o y → Follows m o y Split r z) → 0 < k → (j : ℕ) → j ≡ k - 1 → Placed m o x j z
       placed_back F l j i =
           let W = F P.tied in
-          let at : b.position ≡ k = ap (λ x. x.position) P.book_is in
-          let e = split_one (m.setting h) (book_of b) (book_of d) r W.entry (omega arith) in
-          let n : b.position - 1 ≡ j = omega arith in
-          record { book_is = e ∙ ap (placed_at (book_of b)) n ∙ ap (λ x. placed_at x j) P.book_is; fixed = W.fixed ∙ P.fixed; tied = W.tied }
+          let at : y.mesh.position ≡ k = ap (λ d. d.position) P.book_is in
+          let e = split_one (m.setting y.gauge) (book_of y.mesh) (book_of z.mesh) r W.entry (omega arith) in
+          let n : y.mesh.position - 1 ≡ j = omega arith in
+          record { book_is = e ∙ ap (placed_at (book_of y.mesh)) n ∙ ap (λ d. placed_at d j) P.book_is; fixed = W.fixed ∙ P.fixed; tied = W.tied }
 
       -- and one forward
-      pub placed_on : (Tied m o b h p s → Follows m o b h Redo r d f q t) → k < length (log a) → (j : ℕ) → j ≡ k + 1 → Placed m o a g j d f q t
+      pub placed_on : (Tied m o y → Follows m o y Redo r z) → k < length (log x.mesh) → (j : ℕ) → j ≡ k + 1 → Placed m o x j z
       placed_on F l j i =
           let W = F P.tied in
-          let at : b.position ≡ k = ap (λ x. x.position) P.book_is in
-          let long : length (log b) ≡ length (log a) = ap (λ x. length x.log) P.book_is in
-          let e = redo_one (m.setting h) (book_of b) (book_of d) r W.entry (omega arith) in
-          let n : b.position + 1 ≡ j = omega arith in
-          record { book_is = e ∙ ap (placed_at (book_of b)) n ∙ ap (λ x. placed_at x j) P.book_is; fixed = W.fixed ∙ P.fixed; tied = W.tied }
+          let at : y.mesh.position ≡ k = ap (λ d. d.position) P.book_is in
+          let long : length (log y.mesh) ≡ length (log x.mesh) = ap (λ d. length d.log) P.book_is in
+          let e = redo_one (m.setting y.gauge) (book_of y.mesh) (book_of z.mesh) r W.entry (omega arith) in
+          let n : y.mesh.position + 1 ≡ j = omega arith in
+          record { book_is = e ∙ ap (placed_at (book_of y.mesh)) n ∙ ap (λ d. placed_at d j) P.book_is; fixed = W.fixed ∙ P.fixed; tied = W.tied }
 
-    beyond_follows : (q : Queue C) (s : Stale) → Tied m o a g q s → (k : ℕ) → length (log a) < k → Follows m o a g (Go k) (Refused BeyondLog) a g q s
-    beyond_follows q s K k l = record { entry = beyond_log l; fixed = refl; tied = K }
-
-    went_follows : (b : Mesh) (h : G) (q : Queue C) (s : Stale) (j k n : ℕ) → Placed m o a g j b h q s → j ≡ k → k ≤ length (log a) → n ≤ length (log a) → Follows m o a g (Go k) (Went n) b h q s
-    went_follows b h q s j k n P i l v =
-        let done : Entry m o (m.setting g) (book_of a) (Go k) (Went n) (placed_at (book_of a) k) = goes l v in
+    went_follows : (y : Thinning G C E Z o) (j k n : ℕ) → Placed m o x j y → j ≡ k → k ≤ length (log x.mesh) → n ≤ length (log x.mesh) → Follows m o x (Go k) (Went n) y
+    went_follows y j k n P i l v =
+        let done : Entry m o (m.setting x.gauge) (book_of x.mesh) (Go k) (Went n) (placed_at (book_of x.mesh) k) = goes l v in
         record {
-          entry = subst (Entry m o (m.setting g) (book_of a) (Go k) (Went n)) (sym (P.book_is ∙ ap (placed_at (book_of a)) i)) done;
+          entry = subst (Entry m o (m.setting x.gauge) (book_of x.mesh) (Go k) (Went n)) (sym (P.book_is ∙ ap (placed_at (book_of x.mesh)) i)) done;
           fixed = P.fixed;
           tied = P.tied;
         }
 
-    module _ (q : Queue C) (s : Stale) (K : Tied m o a g q s) (l : List Record) (p k : ℕ) (same : l ≡ log a) (at : p ≡ a.position) where
-      pub log_beyond : length l < k → Follows m o a g (Go k) (Refused BeyondLog) a g q s
-      log_beyond x = let i = ap length same in beyond_follows q s K k (omega arith)
+    module _ (l : List Record) (p k : ℕ) (same : l ≡ log x.mesh) (at : p ≡ x.mesh.position) where
+      pub log_beyond : Tied m o x → length l < k → Follows m o x (Go k) (Refused BeyondLog) x
+      log_beyond K n = let i = ap length same in record { entry = beyond_log (omega arith); fixed = refl; tied = K }
 
-      module _ (within : k ≤ length l) (b : Mesh) (h : G) (r : Queue C) (t : Stale) where
-        pub back_goes : k < p → (p - k ≤ a.position → Placed m o a g (a.position - (p - k)) b h r t) → Follows m o a g (Go k) (Went (p - k)) b h r t
-        back_goes x F =
+      module _ (within : k ≤ length l) (y : Thinning G C E Z o) (n : ℕ) where
+        pub back_goes : k < p → n ≡ p - k → (n ≤ x.mesh.position → Placed m o x (x.mesh.position - n) y) → Follows m o x (Go k) (Went n) y
+        back_goes v d F =
             let i = ap length same in
-            let j = a.placed in
-            let n = a.log.ok.0 in
-            went_follows b h r t (a.position - (p - k)) k (p - k) (F (omega arith)) (omega arith) (omega arith) (omega arith)
+            let j = x.mesh.placed in
+            let q = x.mesh.log.ok.0 in
+            went_follows y (x.mesh.position - n) k n (F (omega arith)) (omega arith) (omega arith) (omega arith)
 
-        pub on_goes : p ≤ k → (a.position + (k - p) ≤ length (log a) → Placed m o a g (a.position + (k - p)) b h r t) → Follows m o a g (Go k) (Went (k - p)) b h r t
-        on_goes x F =
+        pub on_goes : p ≤ k → n ≡ k - p → (x.mesh.position + n ≤ length (log x.mesh) → Placed m o x (x.mesh.position + n) y) → Follows m o x (Go k) (Went n) y
+        on_goes v d F =
             let i = ap length same in
-            went_follows b h r t (a.position + (k - p)) k (k - p) (F (omega arith)) (omega arith) (omega arith) (omega arith)
+            went_follows y (x.mesh.position + n) k n (F (omega arith)) (omega arith) (omega arith) (omega arith)

@@ -1,4 +1,5 @@
 pub mod Nears
+pub mod Cases
 pub mod StillRight
 pub mod Rights
 pub mod OnMeshes
@@ -11,6 +12,7 @@ pub mod Present
 pub mod Drained
 pub mod Books
 pub mod Astrides
+pub mod Consistents
 pub mod Ties
 pub mod Outcomes
 pub mod Steps
@@ -22,3 +24,4 @@ pub mod Readings
 pub mod Openings
 pub mod Thinned
 pub mod Redrawn
+pub mod PiecesFound

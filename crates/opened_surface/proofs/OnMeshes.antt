@@ -15,7 +15,8 @@ use Rattle.gauge.specs.declared.Gauge.{Ghosts}
 use Rattle.opened_surface.specs.Keys.{Mended}
 use Rattle.opened_surface.specs.Marks.{Marks}
 use Rattle.opened_surface.specs.Mending.{MendedNow}
-use Rattle.opened_surface.specs.Stale.{Covered, KeyedBut}
+use Rattle.opened_surface.specs.Stale.{Covered}
+use Rattle.opened_surface.proofs.Cases.{KeyedOr}
 use Rattle.opened_surface.proofs.Rights.{both}
 use Rattle.opened_surface.proofs.StillRight.{Below, SameBut, keyed_after, keyed_before}
 
@@ -45,11 +46,11 @@ module _ {G C E Z : Type 0} (m : Ghosts G C E Z)
     abbrev Forward : ℕ → ℕ → Surface → (ℕ → Vector) → Z → Type 0
     Forward s t N P z =
         Mended m N P z (m.account h) (λ i. i / 3 ≡ s) one two → Mended m N P z (m.account h) (λ i. i / 3 ≡ t) two three →
-        KeyedBut m N P z (m.account h) strong weak T three
+        KeyedOr m N P z (m.account h) strong weak T three
 
     -- after the collapse of e, those of the two triangles that died are mended
-    pub collapse_keyed : {e f c d : ℕ} → Tri (surface a) e u w c → Tri (surface a) f w u d → KeyedBut m (surface a) (points a) (m.setting g) (m.account g) strong weak T one →
-        MendedNow m b h (λ i. i / 3 ≡ e / 3) one two → MendedNow m b h (λ i. i / 3 ≡ f / 3) two three → KeyedBut m (surface b) (points b) (m.setting h) (m.account h) strong weak T three
+    pub collapse_keyed : {e f c d : ℕ} → Tri (surface a) e u w c → Tri (surface a) f w u d → KeyedOr m (surface a) (points a) (m.setting g) (m.account g) strong weak T one →
+        MendedNow m b h (λ i. i / 3 ≡ e / 3) one two → MendedNow m b h (λ i. i / 3 ≡ f / 3) two three → KeyedOr m (surface b) (points b) (m.setting h) (m.account h) strong weak T three
     collapse_keyed {e} {f} te tf K =
         at_b (Forward (e / 3) (f / 3))
         (λ x y.
@@ -58,8 +59,8 @@ module _ {G C E Z : Type 0} (m : Ghosts G C E Z)
 
   module _ (keys : Keys) (long : 3 * T ≤ length keys) where
     abbrev Back : Surface → (ℕ → Vector) → Z → Type 0
-    Back N P z = KeyedBut m N P z (m.account h) strong weak T keys → KeyedBut m (surface a) (points a) (m.setting g) (m.account g) strong weak T keys
+    Back N P z = KeyedOr m N P z (m.account h) strong weak T keys → KeyedOr m (surface a) (points a) (m.setting g) (m.account g) strong weak T keys
 
     -- after its undoing
-    pub undo_keyed : Side (surface a) u w → KeyedBut m (surface b) (points b) (m.setting h) (m.account h) strong weak T keys → KeyedBut m (surface a) (points a) (m.setting g) (m.account g) strong weak T keys
+    pub undo_keyed : Side (surface a) u w → KeyedOr m (surface b) (points b) (m.setting h) (m.account h) strong weak T keys → KeyedOr m (surface a) (points a) (m.setting g) (m.account g) strong weak T keys
     undo_keyed s = at_b Back (keyed_before m blind unseen (points a) (m.setting g) (closed_held a.edges) s after_closed (m.account g) (m.account h) but strong weak cover T low keys long)

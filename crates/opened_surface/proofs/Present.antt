@@ -3,6 +3,7 @@ use Rattle.std.proofs.Common.{◌≡◌, ℕ, zero, suc, ◌<◌, false, ◌≢�
 use Rattle.std.proofs.lemmas.Bool.{both_ways}
 use Rattle.surface.specs.Euler.{count}
 use Rattle.surface.proofs.Counting.{count_less}
+use Rattle.order.specs.declared.Ordered.{Ghosts as Order}
 use Rattle.queue.specs.Meaning.{keys_of, Held}
 use Rattle.queue.specs.declared.Queue.{Queue}
 use Rattle.queue.specs.declared.keys.Key.{Key}
@@ -16,12 +17,12 @@ held_within [] n k h = absurd (both_ways false refl (ap is_some h))
 held_within (x ∷ xs) zero k h = omega arith
 held_within (x ∷ xs) (suc n) k h = let p = held_within xs n k h in omega arith
 
-pub few_held : {C : Type 0} (q : Queue C) (n : ℕ) (k : Key C) → Held (keys_of q) n k → n < 6144
+pub few_held : {C : Type 0} {o : Order C} (q : Queue C o) (n : ℕ) (k : Key C) → Held (keys_of q) n k → n < 6144
 few_held q n k h =
     let p = held_within (keys_of q) n k h in
-    let a = q.even in
-    let b = q.seating.limited in
-    let c = q.keys.ok.0 in
+    let a = q.heap.even in
+    let b = q.heap.seating.limited in
+    let c = q.heap.keys.ok.0 in
     omega arith
 
 module _ {C : Type 0} (keys : List (Option (Key C))) (n : ℕ) (k : Key C) (h : Held keys n k) where

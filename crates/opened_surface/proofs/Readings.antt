@@ -13,22 +13,23 @@ use Rattle.order.specs.declared.Ordered.{Ghosts as Order}
 use Rattle.gauge.specs.Near.{near}
 use Rattle.gauge.specs.declared.Gauge.{Ghosts}
 use Rattle.ledger.specs.Book.{cost_now}
-use Rattle.opened_surface.specs.Consistent.{Consistent}
+use Rattle.opened_surface.specs.Parts.{gauge_of, mesh_of}
 use Rattle.opened_surface.specs.Tied.{book_of}
 use Rattle.opened_surface.specs.declared.opened.Opened.{Opened}
+use Rattle.opened_surface.proofs.Consistents.{consistent}
 use Rattle.opened_surface.proofs.Outcomes.{unpriced, price_now}
 use Rattle.opened_surface.proofs.Ties.{accounted_by}
 
-module _ {G C E Z : Type 0} (m : Ghosts G C E Z) (o : Order C) (x : Opened G C E Z) (K : Consistent m o x) where
+module _ {G C E Z : Type 0} (m : Ghosts G C E Z) (o : Order C) (x : Opened G C E Z m o) where
   -- live vertices and triangles as they are counted now, with the Euler number and the pieces of the opening
-  pub counted_now : (e : HalfEdges) → e ≡ x.mesh.edges → (v t : ℕ) → v ≡ place (held e) (vec_len e.vertices) → t ≡ triangle_place (held e) (vec_len e.triangles) →
-      Counted (surface x.mesh) (triangle_slots x.mesh) (vertex_slots x.mesh) (record { vertices = v; triangles = t; euler = x.counts.euler; pieces = x.counts.pieces })
+  pub counted_now : (e : HalfEdges) → e ≡ (mesh_of x).edges → (v t : ℕ) → v ≡ place (held e) (vec_len e.vertices) → t ≡ triangle_place (held e) (vec_len e.triangles) →
+      Counted (surface (mesh_of x)) (triangle_slots (mesh_of x)) (vertex_slots (mesh_of x)) (record { vertices = v; triangles = t; euler = x.counts.euler; pieces = x.counts.pieces })
   counted_now e i v t p q =
-      let n = K.judged.2 in
-      let kin = always_kin x.mesh in
+      let n = (consistent x).judged.2 in
+      let kin = always_kin (mesh_of x) in
       record {
-        vertices_are = p ∙ ap (λ k. place (held k) (vec_len k.vertices)) i ∙ ap (place (surface x.mesh)) (vertex_slots_lem x.mesh);
-        triangles_are = q ∙ ap (λ k. triangle_place (held k) (vec_len k.triangles)) i ∙ ap (triangle_place (surface x.mesh)) (triangle_slots_lem x.mesh);
+        vertices_are = p ∙ ap (λ k. place (held k) (vec_len k.vertices)) i ∙ ap (place (surface (mesh_of x))) (vertex_slots_lem (mesh_of x));
+        triangles_are = q ∙ ap (λ k. triangle_place (held k) (vec_len k.triangles)) i ∙ ap (triangle_place (surface (mesh_of x))) (triangle_slots_lem (mesh_of x));
         euler_is = n.euler_is ∙ sym kin.euler_same;
         pieces_are = (kin.pieces_same x.counts.pieces).0 n.pieces_are;
       }
@@ -39,16 +40,16 @@ module _ {G C E Z : Type 0} (m : Ghosts G C E Z) (o : Order C) (x : Opened G C E
       (grows : (s : Z) (a b : E) → m.sound a → m.sound b → m.sound (m.merged s a b))
       (back : (s : Z) (a b : E) → m.sound a → m.sound b → m.parted s a (m.merged s a b) ≡ b) (u w : ℕ) where
     abbrev S : Type 0
-    S = Side (surface x.mesh) u w
+    S = Side (surface (mesh_of x)) u w
 
     abbrev Here : Type 0
-    Here = S → u < length (m.account x.gauge) → w < length (m.account x.gauge) → ⊥
+    Here = S → u < length (m.account (gauge_of x)) → w < length (m.account (gauge_of x)) → ⊥
 
     abbrev priced : C
     priced =
-        m.price (m.setting x.gauge) u w (get_or (m.account x.gauge) u m.blank) (get_or (m.account x.gauge) w m.blank) (points x.mesh u) (points x.mesh w) (near (surface x.mesh) (points x.mesh) u w)
+        m.price (m.setting (gauge_of x)) u w (get_or (m.account (gauge_of x)) u m.blank) (get_or (m.account (gauge_of x)) w m.blank) (points (mesh_of x) u) (points (mesh_of x) w) (near (surface (mesh_of x)) (points (mesh_of x)) u w)
 
-    pub cost_now_lem : (r : Option C) → MatchOption r Here (λ k. S × (u < length (m.account x.gauge)) × (w < length (m.account x.gauge)) × (k ≡ priced)) →
-        MatchOption r (S → ⊥) (λ k. S × (k ≡ cost_now m (m.setting x.gauge) (book_of x.mesh) u w))
-    cost_now_lem None n = unpriced m o x.mesh x.gauge x.queue u w (accounted_by m o long begun grows back x.mesh x.gauge K.tied.account) n
-    cost_now_lem (Some k) (s, p, q, i) = (s, i ∙ price_now m o x.mesh x.gauge x.queue K.tied.account u w)
+    pub cost_now_lem : (r : Option C) → MatchOption r Here (λ k. S × (u < length (m.account (gauge_of x))) × (w < length (m.account (gauge_of x))) × (k ≡ priced)) →
+        MatchOption r (S → ⊥) (λ k. S × (k ≡ cost_now m (m.setting (gauge_of x)) (book_of (mesh_of x)) u w))
+    cost_now_lem None n = unpriced m (mesh_of x) (gauge_of x) u w (accounted_by m o long begun grows back (mesh_of x) (gauge_of x) x.tied.account) n
+    cost_now_lem (Some k) (s, p, q, i) = (s, i ∙ price_now m (mesh_of x) (gauge_of x) x.tied.account u w)

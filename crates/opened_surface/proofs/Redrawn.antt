@@ -6,7 +6,6 @@ use Rattle.gathering.specs.Model.{positions, corners, point_of, surface_of, tria
 use Rattle.gathering.specs.declared.gathering.Gathering.{Gathering}
 use Rattle.judging.specs.Verdict.{JudgedSurface, Counted}
 use Rattle.judging.specs.declared.verdict.Counts.{Counts}
-use Rattle.judging.specs.declared.verdict.Verdict.TheVariants.{Accepted}
 use Rattle.mesh.specs.Laws.{triangle_slots, vertex_slots}
 use Rattle.mesh.specs.Model.{surface, opening, points}
 use Rattle.mesh.specs.declared.mesh.Mesh.{Mesh}
@@ -16,7 +15,7 @@ use Rattle.drawing.specs.declared.regathering.Unfit.{Unfit}
 use Rattle.opened_surface.specs.Redrawn.{AcceptedAs, AcceptedAgain}
 
 -- the mesh m was accepted with the counts n as it was opened
-module _ (m : Mesh) (n : Counts) (J : JudgedSurface (opening m) (points m) (triangle_slots m) (vertex_slots m) (Accepted n)) where
+module _ (m : Mesh) (n : Counts) (J : JudgedSurface (opening m) (points m) (triangle_slots m) (vertex_slots m) (Ok n)) where
   -- the counts of the surface as it is now
   abbrev now_counts : Counts
   now_counts =

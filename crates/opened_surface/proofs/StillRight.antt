@@ -25,7 +25,8 @@ use Rattle.gauge.specs.Near.{Placed, near}
 use Rattle.opened_surface.specs.Keys.{KeyFor, KeyIs, Mended}
 use Rattle.opened_surface.specs.Marks.{Marks, Marked}
 use Rattle.opened_surface.specs.Mending.{Beside}
-use Rattle.opened_surface.specs.Stale.{Covered, KeyOr, KeyedBut}
+use Rattle.opened_surface.specs.Stale.{Covered}
+use Rattle.opened_surface.proofs.Cases.{KeyOr, KeyedOr}
 use Rattle.opened_surface.proofs.Nears.{near_same}
 
 -- no live triangle has a number of T or more
@@ -257,8 +258,8 @@ module _ {G C E Z : Type 0} (m : Ghosts G C E Z)
 
     module _ (keys : List (Option (Key C))) (long : 3 * T ≤ length keys) where
       -- from before the collapse to after it, once the two dead triangles are mended
-      pub keyed_after : (after : List (Option (Key C))) {e f a b : ℕ} → Tri S e u w a → Tri S f w u b → KeyedBut m S P z acc strong weak T keys →
-          Mended m Out P z acc' (λ h. (h / 3 ≡ e / 3) ⊎ (h / 3 ≡ f / 3)) keys after → KeyedBut m Out P z acc' strong weak T after
+      pub keyed_after : (after : List (Option (Key C))) {e f a b : ℕ} → Tri S e u w a → Tri S f w u b → KeyedOr m S P z acc strong weak T keys →
+          Mended m Out P z acc' (λ h. (h / 3 ≡ e / 3) ⊎ (h / 3 ≡ f / 3)) keys after → KeyedOr m Out P z acc' strong weak T after
       keyed_after after {e} {f} te tf R M h l =
           elim (M.either h) [ inl k ↦ inl k | inr i ↦ go i (cases_Bool (Out.alive (h / 3))) (cases_Bool (S.alive (h / 3))) ]
         where
@@ -274,7 +275,7 @@ module _ {G C E Z : Type 0} (m : Ghosts G C E Z)
           go i (inr d) (inr v) = dead_or S Out acc acc' h v d _ (was i)
 
       -- and back
-      pub keyed_before : KeyedBut m Out P z acc' strong weak T keys → KeyedBut m S P z acc strong weak T keys
+      pub keyed_before : KeyedOr m Out P z acc' strong weak T keys → KeyedOr m S P z acc strong weak T keys
       keyed_before R h l = go (cases_Bool (S.alive (h / 3))) (cases_Bool (Out.alive (h / 3)))
         where
           go : (S.alive (h / 3) ≡ true) ⊎ (S.alive (h / 3) ≡ false) → (Out.alive (h / 3) ≡ true) ⊎ (Out.alive (h / 3) ≡ false) → Before h (get_or keys h None)

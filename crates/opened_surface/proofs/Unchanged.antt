@@ -1,11 +1,14 @@
 -- A refused call leaves surface, log, position and gauge as they were.
 use Rattle.std.proofs.Common.{◌≡◌, IfNone, IfErr, Some, None, Ok, Err, Option, Result}
+use Rattle.order.specs.declared.Ordered.{Ghosts as Order}
+use Rattle.gauge.specs.declared.Gauge.{Ghosts}
+use Rattle.opened_surface.specs.Parts.{gauge_of, mesh_of}
 use Rattle.opened_surface.specs.Promise.{Untouched}
 use Rattle.opened_surface.specs.declared.opened.Opened.{Opened}
 
-module _ {G C E Z : Type 0} (x y : Opened G C E Z) (counts : y.counts ≡ x.counts) where
+module _ {G C E Z : Type 0} {m : Ghosts G C E Z} {o : Order C} (x y : Opened G C E Z m o) (counts : y.counts ≡ x.counts) where
   abbrev Same : Type 0
-  Same = (y.mesh ≡ x.mesh) × (y.gauge ≡ x.gauge)
+  Same = (mesh_of y ≡ mesh_of x) × (gauge_of y ≡ gauge_of x)
 
   untouched : Same → Untouched x y
   untouched (i, j) = record { mesh_same = i; gauge_same = j; counts_same = counts }

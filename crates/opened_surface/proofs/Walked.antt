@@ -1,6 +1,6 @@
 -- Keys mended on a walk round a vertex.
-use Rattle.std.proofs.Common.{◌≡◌, ℕ, ◌/◌, ◌<◌, true, false, ◌≢◌, ◌⊎◌, List, length, get_or, is_some, Some, None, Option, sym, refl, ◌∙◌, subst, inl, inr, arith}
-use Rattle.std.proofs.lemmas.Bool.{both_ways}
+use Rattle.std.proofs.Common.{◌≡◌, ℕ, ◌/◌, ◌<◌, true, false, ◌≢◌, ◌⊎◌, List, length, get_or, is_some, Some, None, Option, sym, refl, ◌∙◌, subst, inl, inr, arith, Bool, not, eqb, ap}
+use Rattle.std.proofs.lemmas.Bool.{both_ways, cases_Bool, eqb-true}
 use Rattle.surface.specs.Surface.{Surface, Tri}
 use Rattle.queue.specs.declared.keys.Key.{Key}
 use Rattle.mesh.specs.Held.{opposite}
@@ -12,8 +12,6 @@ use Rattle.mesh.proofs.Laps.{Walking}
 use Rattle.mesh.proofs.Round.{closed_held, Follows, Going, togo, begin, onward, closer, around_all}
 use Rattle.gauge.specs.declared.Gauge.{Ghosts}
 use Rattle.opened_surface.specs.Mending.{Accounted, AllPriced, Fit, KeyNow, MendedNow, Refreshed, Touches}
-use Rattle.opened_surface.specs.declared.keys.Mending.{Mending}
-use Rattle.opened_surface.specs.declared.keys.Mending.TheVariants.{Reprice, Reopen}
 use Rattle.opened_surface.proofs.Rights as rights
 use Rattle.opened_surface.proofs.Sides.{Pair, pair_is, touching, untouched}
 
@@ -115,12 +113,16 @@ module _ {G C E Z : Type 0} (m : Ghosts G C E Z) (mesh : Mesh) (gauge : G) (A : 
 pub still_priced : {G C E Z : Type 0} (m : Ghosts G C E Z) (mesh : Mesh) (gauge : G) {Q : ℕ → Type 0} (a b : List (Option (Key C))) → MendedNow m mesh gauge Q a b → AllPriced m mesh gauge a → AllPriced m mesh gauge b
 still_priced m mesh gauge a b M p h k i = elim (M.either h) [ inl r ↦ subst (KeyNow m mesh gauge h) i r | inr e ↦ p h k (sym e ∙ i) ]
 
-pub fit_now : {G C E Z : Type 0} (m : Ghosts G C E Z) (mesh : Mesh) (gauge : G) {Q : ℕ → Type 0} (a b : List (Option (Key C))) (how : Mending) → MendedNow m mesh gauge Q a b → Fit m mesh gauge how a → Fit m mesh gauge how b
-fit_now m mesh gauge a b Reprice M p = tt
-fit_now m mesh gauge a b Reopen M p = still_priced m mesh gauge a b M p
+-- a flag that is not 0 is set
+pub flag_set : (n : ℕ) → (n ≡ 0 → ⊥) → not (eqb n 0) ≡ true
+flag_set n h = elim (cases_Bool (eqb n 0)) [ inl i ↦ absurd (h (eqb-true n 0 i)) | inr i ↦ ap not i ]
+
+pub fit_now : {G C E Z : Type 0} (m : Ghosts G C E Z) (mesh : Mesh) (gauge : G) {Q : ℕ → Type 0} (a b : List (Option (Key C))) (how : Bool) → MendedNow m mesh gauge Q a b → Fit m mesh gauge how a → Fit m mesh gauge how b
+fit_now m mesh gauge a b false M p = tt
+fit_now m mesh gauge a b true M p = still_priced m mesh gauge a b M p
 
 -- and after one more key is written
-pub fit_next : {G C E Z : Type 0} (m : Ghosts G C E Z) (mesh : Mesh) (gauge : G) {Q : ℕ → Type 0} (a b d : List (Option (Key C))) (how : Mending) (h : ℕ) → MendedNow m mesh gauge Q a b → Accounted m mesh gauge →
+pub fit_next : {G C E Z : Type 0} (m : Ghosts G C E Z) (mesh : Mesh) (gauge : G) {Q : ℕ → Type 0} (a b d : List (Option (Key C))) (how : Bool) (h : ℕ) → MendedNow m mesh gauge Q a b → Accounted m mesh gauge →
     (Fit m mesh gauge how b → Refreshed m mesh gauge h b d) → Fit m mesh gauge how a → Fit m mesh gauge how d
 fit_next m mesh gauge a b d how h M acc R f =
     let g = fit_now m mesh gauge a b how M f in

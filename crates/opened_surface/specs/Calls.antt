@@ -1,17 +1,12 @@
 -- The answers of the ledger, from what the calls return.
 use Rattle.std.specs.Prelude.{ℕ, Some, None, Ok, Err, Option, Result}
 use Rattle.mesh.specs.declared.mesh.permits.CollapseRefusal.{CollapseRefusal}
-use Rattle.mesh.specs.declared.mesh.permits.CollapseRefusal.TheVariants.{NoSide as no_side, NotClosed as not_closed, Folds as folds}
+pub use Rattle.ledger.specs.Refusals.{refusal_of}
 use Rattle.queue.specs.declared.keys.Key.{Key}
 use Rattle.ledger.specs.declared.call.Answer.{Answer}
 use Rattle.ledger.specs.declared.call.Answer.TheVariants.{Collapsed, Stepped, Split, Redone, Went, Refused}
 use Rattle.ledger.specs.declared.call.Refusal.{Refusal}
-use Rattle.ledger.specs.declared.call.Refusal.TheVariants.{NoSide, NotClosed, Folds, NonePermitted, NothingDone, NothingAhead, BeyondLog}
-
-abbrev pub refusal_of : CollapseRefusal → Refusal
-refusal_of no_side = NoSide
-refusal_of not_closed = NotClosed
-refusal_of folds = Folds
+use Rattle.ledger.specs.declared.call.Refusal.TheVariants.{NonePermitted, NothingDone, NothingAhead, BeyondLog}
 
 abbrev pub collapse_answer : {C : Type 0} → Result C CollapseRefusal → Answer C
 collapse_answer (Ok cost) = Collapsed cost
@@ -32,3 +27,7 @@ redo_answer None = Refused NothingAhead
 abbrev pub go_answer : {C : Type 0} → Option ℕ → Answer C
 go_answer (Some moves) = Went moves
 go_answer None = Refused BeyondLog
+
+abbrev pub answer_of : {C : Type 0} → Result (Answer C) Refusal → Answer C
+answer_of (Ok answer) = answer
+answer_of (Err why) = Refused why

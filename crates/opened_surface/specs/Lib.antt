@@ -3,11 +3,14 @@ pub mod Mending
 pub mod Marks
 pub mod Stale
 pub mod Tied
+pub mod Props
 pub mod Calls
 pub mod Found
+pub mod Parts
 pub mod Consistent
 pub mod Promise
-pub mod Begun
+pub mod Whys
 pub mod Openings
+pub mod Begun
 pub mod Thinned
 pub mod Redrawn

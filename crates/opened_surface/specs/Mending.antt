@@ -1,13 +1,11 @@
 -- Keys by the surface of a mesh and the account of a gauge.
-use Rattle.std.specs.Prelude.{◌≡◌, ℕ, ◌/◌, true, ◌⊎◌, List, length, Some, None, vec_items, Option, slice_index_or, slice_set}
+use Rattle.std.specs.Prelude.{◌≡◌, ℕ, ◌/◌, Bool, true, false, ◌⊎◌, List, length, Some, None, vec_items, Option, slice_index_or, slice_set}
 use Rattle.surface.specs.Surface.{Surface, next, Side}
 use Rattle.mesh.specs.Model.{surface, points}
 use Rattle.mesh.specs.declared.mesh.Mesh.{Mesh}
 use Rattle.queue.specs.declared.keys.Key.{Key}
 use Rattle.gauge.specs.declared.Gauge.{Ghosts}
 use Rattle.opened_surface.specs.Keys.{KeyIs, Keyed, Mended}
-use Rattle.opened_surface.specs.declared.keys.Mending.{Mending}
-use Rattle.opened_surface.specs.declared.keys.Mending.TheVariants.{Reprice, Reopen}
 
 -- the account has an entry for each vertex
 abbrev pub Accounted : {G C E Z : Type 0} → Ghosts G C E Z → Mesh → G → Type 0
@@ -26,10 +24,10 @@ MendedNow m mesh gauge Q before after = Mended m (surface mesh) (points mesh) (m
 abbrev pub AllPriced : {G C E Z : Type 0} → Ghosts G C E Z → Mesh → G → List (Option (Key C)) → Type 0
 AllPriced {C = C} m mesh gauge keys = (h : ℕ) (k : Key C) → slice_index_or keys h None ≡ Some k → KeyNow m mesh gauge h (Some k)
 
--- the keys that this kind of mending leaves alone are right
-abbrev pub Fit : {G C E Z : Type 0} → Ghosts G C E Z → Mesh → G → Mending → List (Option (Key C)) → Type 0
-Fit m mesh gauge Reprice keys = Unit {0}
-Fit m mesh gauge Reopen keys = AllPriced m mesh gauge keys
+-- the keys that mending leaves alone are right: all that there are where only the missing ones are mended, and else none
+abbrev pub Fit : {G C E Z : Type 0} → Ghosts G C E Z → Mesh → G → Bool → List (Option (Key C)) → Type 0
+Fit m mesh gauge false keys = Unit {0}
+Fit m mesh gauge true keys = AllPriced m mesh gauge keys
 
 -- candidate h has its key, and the other candidates have theirs as before
 pub record Refreshed {G C E Z : Type 0} (m : Ghosts G C E Z) (mesh : Mesh) (gauge : G) (h : ℕ) (before after : List (Option (Key C))) : Type 0 where

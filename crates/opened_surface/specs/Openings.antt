@@ -6,13 +6,13 @@ use Rattle.geometry.specs.declared.Position.{Position}
 use Rattle.judging.specs.Numbers.{flaw_number, flaw_place}
 use Rattle.judging.specs.Verdict.{Judged}
 use Rattle.judging.specs.declared.verdict.Counts.{Counts}
-use Rattle.judging.specs.declared.verdict.Verdict.TheVariants.{Accepted, Refused as Rejected}
 use Rattle.mesh.specs.Model.{surface}
 use Rattle.order.specs.declared.Ordered.{Ghosts as Order}
 use Rattle.gauge.specs.Numbers.{too_many_vertices_number}
 use Rattle.gauge.specs.declared.Gauge.{Ghosts}
 use Rattle.ledger.specs.Book.{Book}
 use Rattle.opened_surface.specs.Consistent.{Consistent}
+use Rattle.opened_surface.specs.Parts.{gauge_of, mesh_of}
 use Rattle.opened_surface.specs.Tied.{book_of}
 use Rattle.opened_surface.specs.declared.opened.Opened.{Opened}
 use Rattle.opened_surface.specs.declared.opened.opening.OpenRefusal.{OpenRefusal}
@@ -43,19 +43,19 @@ first_book ps cs =
     }
 
 -- the gathered surface is accepted with its counts, and opened with the gauge
-pub record OpenedWith {G C E Z : Type 0} (m : Ghosts G C E Z) (o : Order C) (g : Gathering) (gauge : G) (x : Opened G C E Z) : Type 0 where
-  pub judged : Judged (positions g) (corners g) (Accepted x.counts)
+pub record OpenedWith {G C E Z : Type 0} (m : Ghosts G C E Z) (o : Order C) (g : Gathering) (gauge : G) (x : Opened G C E Z m o) : Type 0 where
+  pub judged : Judged (positions g) (corners g) (Ok x.counts)
   pub taken : length (positions g) ≤ m.capacity gauge
-  pub book_is : book_of x.mesh ≡ first_book (positions g) (corners g)
-  pub surface_is : surface x.mesh ≡ surface_of (positions g) (corners g)
-  pub account_is : m.account x.gauge ≡ m.opening (m.setting gauge) (surface_of (positions g) (corners g)) (point_of (positions g)) (length (positions g))
-  pub setting_same : m.setting x.gauge ≡ m.setting gauge
+  pub book_is : book_of (mesh_of x) ≡ first_book (positions g) (corners g)
+  pub surface_is : surface (mesh_of x) ≡ surface_of (positions g) (corners g)
+  pub account_is : m.account (gauge_of x) ≡ m.opening (m.setting gauge) (surface_of (positions g) (corners g)) (point_of (positions g)) (length (positions g))
+  pub setting_same : m.setting (gauge_of x) ≡ m.setting gauge
   pub consistent : Consistent m o x
 
 -- why the gathering is not opened: the first rule that it breaks, or an accepted one has more vertices than the gauge takes
 abbrev pub WhyNot : {G C E Z : Type 0} → Ghosts G C E Z → Gathering → G → Why → Type 0
-WhyNot m g gauge (Refused (Flawed f)) = Judged (positions g) (corners g) (Rejected f)
-WhyNot m g gauge (Refused TooManyVertices) = ((n : Counts) × Judged (positions g) (corners g) (Accepted n)) × (m.capacity gauge < length (positions g))
+WhyNot m g gauge (Refused (Flawed f)) = Judged (positions g) (corners g) (Err f)
+WhyNot m g gauge (Refused TooManyVertices) = ((n : Counts) × Judged (positions g) (corners g) (Ok n)) × (m.capacity gauge < length (positions g))
 WhyNot m g gauge NoMemory = Unit {0}
 
 -- gathering and gauge are handed back as they came
@@ -64,6 +64,6 @@ pub record HandedBack {G C E Z : Type 0} (m : Ghosts G C E Z) (g : Gathering) (g
   pub gauge_same : f.gauge ≡ gauge
   pub why_not : WhyNot m g gauge f.why
 
-abbrev pub Opens : {G C E Z : Type 0} → Ghosts G C E Z → Order C → Gathering → G → Result (Opened G C E Z) (Unopened G) → Type 0
+abbrev pub Opens : {G C E Z : Type 0} → (m : Ghosts G C E Z) → (o : Order C) → Gathering → G → Result (Opened G C E Z m o) (Unopened G) → Type 0
 Opens m o g gauge (Ok x) = OpenedWith m o g gauge x
 Opens m o g gauge (Err f) = HandedBack m g gauge f

@@ -4,7 +4,6 @@ use Rattle.gathering.specs.Model.{positions, corners}
 use Rattle.gathering.specs.declared.gathering.Gathering.{Gathering}
 use Rattle.judging.specs.Verdict.{Judged, Counted}
 use Rattle.judging.specs.declared.verdict.Counts.{Counts}
-use Rattle.judging.specs.declared.verdict.Verdict.TheVariants.{Accepted}
 use Rattle.mesh.specs.Laws.{triangle_slots, vertex_slots}
 use Rattle.mesh.specs.Model.{surface}
 use Rattle.mesh.specs.declared.mesh.Mesh.{Mesh}
@@ -14,7 +13,7 @@ use Rattle.drawing.specs.declared.regathering.Unfit.{Unfit}
 -- surface of m as it is now
 pub record AcceptedAs (m : Mesh) (g : Gathering) : Type 0 where
   pub counts : Counts
-  pub judged : Judged (positions g) (corners g) (Accepted counts)
+  pub judged : Judged (positions g) (corners g) (Ok counts)
   pub counted : Counted (surface m) (triangle_slots m) (vertex_slots m) counts
 
 -- of what was gathered again, if there was memory

@@ -9,8 +9,6 @@ use Rattle.queue.specs.declared.keys.Key.{Key}
 use Rattle.gauge.specs.declared.Gauge.{Ghosts}
 use Rattle.opened_surface.specs.Keys.{KeyIs}
 use Rattle.opened_surface.specs.Marks.{Marks, Marked, NearMark}
-use Rattle.opened_surface.specs.declared.keys.Mending.{Mending}
-use Rattle.opened_surface.specs.declared.keys.Mending.TheVariants.{Reprice, Reopen}
 use Rattle.opened_surface.specs.declared.stale.Stale.{Stale}
 
 abbrev pub repriced : Stale → Marks
@@ -19,13 +17,13 @@ repriced s = keys_of s.repriced
 abbrev pub reopened : Stale → Marks
 reopened s = keys_of s.reopened
 
--- candidate h has its key, or is near a vertex that is to be priced again, or has none and is near one that is to be opened again
-abbrev pub KeyOr : {G C E Z : Type 0} → Ghosts G C E Z → Surface → (ℕ → Vector) → Z → List E → Marks → Marks → ℕ → Option (Key C) → Type 0
-KeyOr m S P setting account strong weak h k = KeyIs m S P setting account h k ⊎ (NearMark S strong h ⊎ ((k ≡ None) × NearMark S weak h))
+-- candidate h has its key, unless it is near a vertex that is to be priced again, or has none and is near one that is to be opened again
+abbrev pub KeyBut : {G C E Z : Type 0} → Ghosts G C E Z → Surface → (ℕ → Vector) → Z → List E → Marks → Marks → ℕ → Option (Key C) → Type 0
+KeyBut m S P setting account strong weak h k = (NearMark S strong h → ⊥) → ((k ≡ None) × NearMark S weak h → ⊥) → KeyIs m S P setting account h k
 
 -- so do the candidates of the first T triangles
 abbrev pub KeyedBut : {G C E Z : Type 0} → Ghosts G C E Z → Surface → (ℕ → Vector) → Z → List E → Marks → Marks → ℕ → List (Option (Key C)) → Type 0
-KeyedBut m S P setting account strong weak T keys = (h : ℕ) → h < 3 * T → KeyOr m S P setting account strong weak h (slice_index_or keys h None)
+KeyedBut m S P setting account strong weak T keys = (h : ℕ) → h < 3 * T → KeyBut m S P setting account strong weak h (slice_index_or keys h None)
 
 -- what the collapse of u to w, and its undoing, ask for: u and w are to be priced again, and so are the neighbours of u; where prices do
 -- not rest on the triangles, the neighbours are only to be opened again
@@ -40,11 +38,6 @@ pub record Grown (s t : Stale) : Type 0 where
   pub open_kept : (x : ℕ) → Marked (reopened s) x → Marked (reopened t) x
   pub price_long : length (repriced t) ≡ length (repriced s)
   pub open_long : length (reopened t) ≡ length (reopened s)
-
--- the set of this kind of mending
-abbrev pub marks_of : Mending → Stale → Marks
-marks_of Reprice s = repriced s
-marks_of Reopen s = reopened s
 
 -- there is room for each vertex
 abbrev pub Sized : Mesh → Stale → Type 0

@@ -7,8 +7,6 @@ use Rattle.mesh.specs.Moves.{SameOpening}
 use Rattle.mesh.specs.declared.mesh.Mesh.{Mesh}
 use Rattle.order.specs.declared.Ordered.{Ghosts as Order}
 use Rattle.queue.specs.Meaning.{keys_of}
-use Rattle.queue.specs.Sound.{Sound}
-use Rattle.queue.specs.declared.Queue.{Queue}
 use Rattle.gauge.specs.Accounts.{changed, TwoOf}
 use Rattle.gauge.specs.declared.Gauge.{Ghosts}
 use Rattle.ledger.specs.Book.{Book, account_now}
@@ -16,7 +14,7 @@ use Rattle.ledger.specs.Ledger.{placed_at, Entry, Kept}
 use Rattle.ledger.specs.declared.call.Call.{Call}
 use Rattle.ledger.specs.declared.call.Answer.{Answer}
 use Rattle.opened_surface.specs.Stale.{KeyedBut, Sized, repriced, reopened}
-use Rattle.opened_surface.specs.declared.stale.Stale.{Stale}
+use Rattle.opened_surface.specs.declared.thinning.Thinning.{Thinning}
 
 abbrev pub book_of : Mesh → Book
 book_of mesh =
@@ -31,22 +29,21 @@ book_of mesh =
 
 -- the gauge has the account of the book, and the queue has a place for each half-edge and the key of each that is not near a stale vertex;
 -- m is what the gauge means, and o the order of its costs
-pub record Tied {G C E Z : Type 0} (m : Ghosts G C E Z) (o : Order C) (mesh : Mesh) (gauge : G) (queue : Queue C) (stale : Stale) : Type 0 where
-  pub account : m.account gauge ≡ account_now m (m.setting gauge) (book_of mesh)
-  pub long : length (keys_of queue) ≡ 3 * vec_len mesh.edges.triangles
-  pub keyed : KeyedBut m (surface mesh) (points mesh) (m.setting gauge) (m.account gauge) (repriced stale) (reopened stale) (vec_len mesh.edges.triangles) (keys_of queue)
-  pub sound : Sound o queue
-  pub sized : Sized mesh stale
+pub record Tied {G C E Z : Type 0} (m : Ghosts G C E Z) (o : Order C) (x : Thinning G C E Z o) : Type 0 where
+  pub account : m.account x.gauge ≡ account_now m (m.setting x.gauge) (book_of x.mesh)
+  pub long : length (keys_of x.queue) ≡ 3 * vec_len x.mesh.edges.triangles
+  pub keyed : KeyedBut m (surface x.mesh) (points x.mesh) (m.setting x.gauge) (m.account x.gauge) (repriced x.stale) (reopened x.stale) (vec_len x.mesh.edges.triangles) (keys_of x.queue)
+  pub sized : Sized x.mesh x.stale
 
--- what a call leaves, from a mesh a and a gauge g: the ledger's entry, the setting as it was, and all tied again
-pub record Follows {G C E Z : Type 0} (m : Ghosts G C E Z) (o : Order C) (a : Mesh) (g : G) (c : Call) (r : Answer C) (b : Mesh) (h : G) (queue : Queue C) (stale : Stale) : Type 0 where
-  pub entry : Entry m o (m.setting g) (book_of a) c r (book_of b)
-  pub fixed : m.setting h ≡ m.setting g
-  pub tied : Tied m o b h queue stale
+-- the same gauge, queue and stale vertices with another mesh
+abbrev pub with_mesh : {G C E Z : Type 0} {o : Order C} → Mesh → Thinning G C E Z o → Thinning G C E Z o
+with_mesh a x = record { mesh = a; gauge = x.gauge; queue = x.queue; stale = x.stale }
 
--- the same of a call that leaves the queue as it is
-abbrev pub FollowsBy : {G C E Z : Type 0} → Ghosts G C E Z → Order C → Mesh → G → Stale → Call → Answer C → Mesh → G → Stale → Type 0
-FollowsBy {C = C} m o a g s c r b h t = (queue : Queue C) → Tied m o a g queue s → Follows m o a g c r b h queue t
+-- what a call on x leaves: the ledger's entry, the setting as it was, and all tied again
+pub record Follows {G C E Z : Type 0} (m : Ghosts G C E Z) (o : Order C) (x : Thinning G C E Z o) (c : Call) (r : Answer C) (y : Thinning G C E Z o) : Type 0 where
+  pub entry : Entry m o (m.setting x.gauge) (book_of x.mesh) c r (book_of y.mesh)
+  pub fixed : m.setting y.gauge ≡ m.setting x.gauge
+  pub tied : Tied m o y
 
 -- e leads from u to w and f back
 pub record Astride (S : Surface) (u w e f : ℕ) : Type 0 where
@@ -62,17 +59,13 @@ pub record Joined {G C E Z : Type 0} (m : Ghosts G C E Z) (a : Mesh) (u w e f : 
   pub account_next : (s : Z) → account_now m s (book_of b) ≡ changed (m.merged s) m.blank u w (account_now m s (book_of a))
 
 -- the same book at position k, the setting as it was, and all tied
-pub record Placed {G C E Z : Type 0} (m : Ghosts G C E Z) (o : Order C) (a : Mesh) (g : G) (k : ℕ) (b : Mesh) (h : G) (queue : Queue C) (stale : Stale) : Type 0 where
-  pub book_is : book_of b ≡ placed_at (book_of a) k
-  pub fixed : m.setting h ≡ m.setting g
-  pub tied : Tied m o b h queue stale
+pub record Placed {G C E Z : Type 0} (m : Ghosts G C E Z) (o : Order C) (x : Thinning G C E Z o) (k : ℕ) (y : Thinning G C E Z o) : Type 0 where
+  pub book_is : book_of y.mesh ≡ placed_at (book_of x.mesh) k
+  pub fixed : m.setting y.gauge ≡ m.setting x.gauge
+  pub tied : Tied m o y
 
--- the same where the queue stays as it is
-abbrev pub PlacedBy : {G C E Z : Type 0} → Ghosts G C E Z → Order C → Mesh → G → Stale → ℕ → Mesh → G → Stale → Type 0
-PlacedBy {C = C} m o a g s k b h t = (queue : Queue C) → Tied m o a g queue s → Placed m o a g k b h queue t
-
--- what a list of calls leaves, from a mesh a and a gauge g: the ledger over the list, the setting as it was, and all tied
-pub record FollowsAll {G C E Z : Type 0} (m : Ghosts G C E Z) (o : Order C) (a : Mesh) (g : G) (calls : List Call) (answers : List (Answer C)) (b : Mesh) (h : G) (queue : Queue C) (stale : Stale) : Type 0 where
-  pub kept : Kept m o (m.setting g) (book_of a) calls answers (book_of b)
-  pub fixed : m.setting h ≡ m.setting g
-  pub tied : Tied m o b h queue stale
+-- what a list of calls on x leaves: the ledger over the list, the setting as it was, and all tied again
+pub record FollowsAll {G C E Z : Type 0} (m : Ghosts G C E Z) (o : Order C) (x : Thinning G C E Z o) (calls : List Call) (answers : List (Answer C)) (y : Thinning G C E Z o) : Type 0 where
+  pub kept : Kept m o (m.setting x.gauge) (book_of x.mesh) calls answers (book_of y.mesh)
+  pub fixed : m.setting y.gauge ≡ m.setting x.gauge
+  pub tied : Tied m o y

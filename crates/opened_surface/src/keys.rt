@@ -1,20 +1,10 @@
 //! The keys of the candidates, as the surface and the gauge give them.
 ghost use Rattle.queue.specs.Meaning.{keys_of};
-ghost use Rattle.queue.specs.Sound.{Sound};
 ghost use Rattle.opened_surface.specs.Mending.{Accounted, Fit, KeyNow, Refreshed};
 
 use gauge::telling::TellingGauge;
 use mesh::mesh::Mesh;
 use queue::{Key, Queue};
-
-/// How keys are made right.
-#[derive(Clone, Copy)]
-pub(crate) enum Mending {
-    /// Each half-edge is priced.
-    Reprice,
-    /// Each half-edge that has no key is priced; the others have the right one.
-    Reopen,
-}
 
 /// The key of the half-edge `h`, if it is live.
 pub(crate) fn key_of<G: TellingGauge>(mesh: &Mesh, gauge: &G, h: u16) -> Option<Key<G::Cost>>
@@ -26,28 +16,22 @@ pub(crate) fn key_of<G: TellingGauge>(mesh: &Mesh, gauge: &G, h: u16) -> Option<
     }
     let u = edges.start(h);
     let w = edges.end(h);
-    let Some(cost) = gauge.cost(mesh, u, w) else {
-        return None;
-    };
+    let cost = gauge.cost(mesh, u, w)?;
     Some(Key { cost, u, w })
 }
 
-/// Gives the half-edge `h` its key, or takes its key away.
-pub(crate) fn refresh<G: TellingGauge>(
+/// Gives the half-edge `h` its key, or takes its key away. Where only missing keys are to be given, one that is there stays.
+pub(crate) fn refresh<G: TellingGauge, const ONLY_MISSING: bool>(
     mesh: &Mesh,
     gauge: &G,
     queue: &mut Queue<G::Cost>,
     h: u16,
-    mending: Mending,
 )
-    ensures refreshed { Fit G.Gauge mesh.now gauge.now mending (keys_of queue.old) → Refreshed G.Gauge mesh.now gauge.now h (keys_of queue.old) (keys_of queue.new) }
-    ensures sound { Sound G.Cost.Ordered queue.old → Sound G.Cost.Ordered queue.new }
+    ensures refreshed { Fit G.Gauge mesh.now gauge.now ONLY_MISSING (keys_of queue.old) → Refreshed G.Gauge mesh.now gauge.now h (keys_of queue.old) (keys_of queue.new) }
 {
-    if let Mending::Reopen = mending {
-        if queue.key(usize::from(h)).is_some() {
-            return;
-        }
+    if ONLY_MISSING && queue.key(usize::from(h)).is_some() {
+        return;
     }
     let key = key_of(mesh, gauge, h);
-    queue.set(usize::from(h), key);
+    let _ = queue.set(usize::from(h), key);
 }

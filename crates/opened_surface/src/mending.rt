@@ -1,11 +1,11 @@
 //! Keys that are made right again where the surface or the account has changed.
+// Kept: mesh, gauge and queue are lent apart; as methods of `Thinning` each function would promise besides that all but the queue stays.
 ghost use Rattle.std.specs.Prelude.{◌≡◌, ℕ, ◌*◌, ◌/◌, ◌<◌, ◌≤◌, length, vec_len};
 ghost use Rattle.mesh.specs.Model.{surface as surface_of};
 ghost use Rattle.queue.specs.Meaning.{keys_of};
-ghost use Rattle.queue.specs.Sound.{Sound};
 ghost use Rattle.opened_surface.specs.Mending.{Accounted, Fit, KeyedNow, MendedNow, Touches};
 
-use crate::keys::{Mending, refresh};
+use crate::keys::refresh;
 use gauge::telling::TellingGauge;
 use mesh::mesh::Mesh;
 use queue::Queue;
@@ -19,10 +19,9 @@ fn mend_range<G: TellingGauge>(
     end: u16,
 )
     ensures mended { Accounted G.Gauge mesh.now gauge.now → MendedNow G.Gauge mesh.now gauge.now (λ h. (first ≤ h) × (h < end)) (keys_of queue.old) (keys_of queue.new) }
-    ensures sound { Sound G.Cost.Ordered queue.old → Sound G.Cost.Ordered queue.new }
 {
     for h in first..end {
-        refresh(mesh, gauge, queue, h, Mending::Reprice);
+        refresh::<G, false>(mesh, gauge, queue, h);
     }
 }
 
@@ -30,22 +29,19 @@ fn mend_range<G: TellingGauge>(
 pub(crate) fn fill<G: TellingGauge>(mesh: &Mesh, gauge: &G, queue: &mut Queue<G::Cost>)
     ensures keyed { Accounted G.Gauge mesh.now gauge.now → 3 * vec_len mesh.now.edges.triangles ≤ length (keys_of queue.old) → KeyedNow G.Gauge mesh.now gauge.now (vec_len mesh.now.edges.triangles) (keys_of queue.new) }
     ensures long { Accounted G.Gauge mesh.now gauge.now → length (keys_of queue.new) ≡ length (keys_of queue.old) }
-    ensures sound { Sound G.Cost.Ordered queue.old → Sound G.Cost.Ordered queue.new }
 {
     let count = mesh.edges().half_edge_count();
     mend_range(mesh, gauge, queue, 0, count as u16);
 }
 
-/// Mends the keys of the half-edges that begin or end at the vertex `x`.
-pub(crate) fn mend_vertex<G: TellingGauge>(
+/// Mends the keys of the half-edges that begin or end at the vertex `x`, or only the missing ones.
+pub(crate) fn mend_vertex<G: TellingGauge, const ONLY_MISSING: bool>(
     mesh: &Mesh,
     gauge: &G,
     queue: &mut Queue<G::Cost>,
     x: u16,
-    mending: Mending,
 )
-    ensures mended { Accounted G.Gauge mesh.now gauge.now × Fit G.Gauge mesh.now gauge.now mending (keys_of queue.old) → MendedNow G.Gauge mesh.now gauge.now (Touches (surface_of mesh.now) x) (keys_of queue.old) (keys_of queue.new) }
-    ensures sound { Sound G.Cost.Ordered queue.old → Sound G.Cost.Ordered queue.new }
+    ensures mended { Accounted G.Gauge mesh.now gauge.now × Fit G.Gauge mesh.now gauge.now ONLY_MISSING (keys_of queue.old) → MendedNow G.Gauge mesh.now gauge.now (Touches (surface_of mesh.now) x) (keys_of queue.old) (keys_of queue.new) }
 {
     let edges = mesh.edges();
     let Some(first) = edges.outgoing(x) else {
@@ -53,8 +49,8 @@ pub(crate) fn mend_vertex<G: TellingGauge>(
     };
     let mut h = first;
     loop {
-        refresh(mesh, gauge, queue, h, mending);
-        refresh(mesh, gauge, queue, edges.twin(h), mending);
+        refresh::<G, ONLY_MISSING>(mesh, gauge, queue, h);
+        refresh::<G, ONLY_MISSING>(mesh, gauge, queue, edges.twin(h));
         h = edges.around(h);
         if h == first {
             return;
@@ -71,7 +67,6 @@ pub(crate) fn mend_triangle<G: TellingGauge>(
 )
     requires few { t < 2048 }
     ensures mended { Accounted G.Gauge mesh.now gauge.now → MendedNow G.Gauge mesh.now gauge.now (λ h. h / 3 ≡ t) (keys_of queue.old) (keys_of queue.new) }
-    ensures sound { Sound G.Cost.Ordered queue.old → Sound G.Cost.Ordered queue.new }
 {
     mend_range(mesh, gauge, queue, 3 * t, 3 * t + 3);
 }

@@ -1,11 +1,10 @@
 -- Each cost that calls on a sensible book answer is exact.
-use Rattle.std.proofs.Common.{◌≡◌, ℕ, zero, suc, List, length, sym, refl, subst, arith}
+use Rattle.std.proofs.Common.{Ok, ◌≡◌, ℕ, zero, suc, List, length, sym, refl, subst, arith}
 use Rattle.surface.specs.Geometry.{Vector}
 use Rattle.gathering.specs.Model.{positions, corners}
 use Rattle.gathering.specs.declared.gathering.Gathering.{Gathering}
 use Rattle.judging.specs.Verdict.{Judged}
 use Rattle.judging.specs.declared.verdict.Counts.{Counts}
-use Rattle.judging.specs.declared.verdict.Verdict.TheVariants.{Accepted}
 use Rattle.mesh.proofs.Along.{whole_within}
 use Rattle.planes.specs.Meaning.{by_planes, whole_order}
 use Rattle.planes.specs.Exact.{Bytes}
@@ -70,7 +69,7 @@ all_exact K B (next e k) (suc i) l =
     record { stood = x.stood; before = next e x.before; exact = x.exact }
 
 -- the first book of an accepted gathering
-first_sensible : (g : Gathering) (n : Counts) → Judged (positions g) (corners g) (Accepted n) → Sensible (first_book (positions g) (corners g))
+first_sensible : (g : Gathering) (n : Counts) → Judged (positions g) (corners g) (Ok n) → Sensible (first_book (positions g) (corners g))
 first_sensible g n J =
     record {
       closed = J.0;
@@ -80,7 +79,7 @@ first_sensible g n J =
     }
 
 -- points in bytes at the end of the calls were in bytes from the first
-pub gathered_exact : (g : Gathering) (n : Counts) → Judged (positions g) (corners g) (Accepted n) → {d : Book} {cs : List Call} {rs : List (Answer ℕ)} → InBytes d.points →
+pub gathered_exact : (g : Gathering) (n : Counts) → Judged (positions g) (corners g) (Ok n) → {d : Book} {cs : List Call} {rs : List (Answer ℕ)} → InBytes d.points →
     Kept by_planes whole_order tt (first_book (positions g) (corners g)) cs rs d → AllExact (first_book (positions g) (corners g)) cs rs
 gathered_exact g n J B k =
     let K = first_sensible g n J in

@@ -6,6 +6,7 @@ use Rattle.planes.specs.Meaning.{by_planes, whole_order}
 use Rattle.planes.specs.declared.planes.Planes.{Planes}
 use Rattle.ledger.specs.declared.call.Call.{Call}
 use Rattle.opened_surface.specs.Openings.{first_book, HandedBack}
+use Rattle.opened_surface.specs.Parts.{mesh_of}
 use Rattle.opened_surface.specs.Thinned.{ThinnedBy}
 use Rattle.opened_surface.specs.declared.opened.opening.Unopened.{Unopened}
 use Rattle.plane_costs.specs.Answered.{AllExact}
@@ -17,7 +18,7 @@ use Rattle.plane_costs.specs.declared.after.Costed.{Costed}
 pub record CostedBy (g : Gathering) (gauge : Planes) (calls : List Call) (u w : ℕ) (x : Costed) : Type 0 where
   pub thinned_by : ThinnedBy by_planes whole_order g gauge calls x.thinned
   pub answers_exact : AllExact (first_book (positions g) (corners g)) calls (vec_items x.thinned.answers)
-  pub cost_is : CostNow x.thinned.opened.mesh u w x.cost
+  pub cost_is : CostNow (mesh_of x.thinned.opened) u w x.cost
 
 -- or it is not opened, and gathering and gauge are handed back
 abbrev pub CostsAfter : Gathering → Planes → List Call → ℕ → ℕ → Result Costed (Unopened Planes) → Type 0

@@ -4,6 +4,7 @@ ghost use Rattle.std.specs.Prelude.{ℕ};
 ghost use Rattle.gathering.specs.Model.{point_of};
 ghost use Rattle.geometry.specs.Values.{vector_of};
 ghost use Rattle.mesh.specs.Model.{points as points_of};
+ghost use Rattle.opened_surface.specs.Parts.{mesh_of};
 ghost use Rattle.planes.specs.Exact.{Bytes};
 
 use geometry::Position;
@@ -16,6 +17,7 @@ fn look(position: Position)
 {}
 
 /// Looks at each position.
+// Kept: a number is known to fit a byte only where code reads it, so no lemma over the list shows it of all, and an iterator chain says no more.
 fn look_at(positions: &[Position])
     ensures bytes { (v : ℕ) → Bytes (point_of positions.now v) }
 {
@@ -26,7 +28,7 @@ fn look_at(positions: &[Position])
 
 /// Looks at each position of an opened surface.
 pub(crate) fn look_over(opened: &Opened<Planes>)
-    ensures bytes { (v : ℕ) → Bytes (points_of opened.now.mesh v) }
+    ensures bytes { (v : ℕ) → Bytes (points_of (mesh_of opened.now) v) }
 {
     look_at(opened.mesh().positions());
 }

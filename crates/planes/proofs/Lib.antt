@@ -1,7 +1,6 @@
 pub mod Residues
 pub mod Identities
 pub mod Quadrics
-pub mod Entries
 pub mod Volumes
 pub mod Values
 pub mod Exact

@@ -8,15 +8,11 @@ pub mod planes;
 pub mod quadric;
 
 /// After any merges a cost, though computed modulo 2^64, is the exact sum of those squares.
-pub fn exact_sum_law() -> u8
+pub fn exact_sum_law()
     ensures stands { ExactSum }
-{
-    0
-}
+{}
 
 /// On a mesh, wherever it stands on its log, the cost of a side is that exact sum over the triangles as they were opened.
-pub fn exact_on_mesh_law() -> u8
+pub fn exact_on_mesh_law()
     ensures stands { ExactOnMesh }
-{
-    0
-}
+{}

@@ -1,5 +1,5 @@
 //! The gauge by planes.
-ghost use Rattle.std.specs.Prelude.{◌≤◌, vec_len};
+ghost use Rattle.std.specs.Prelude.{◌≤◌, vec_capacity};
 
 use crate::quadric::Quadric;
 
@@ -8,9 +8,8 @@ pub mod calls;
 /// A quadric for each opened vertex: the sum of those of the triangles at the vertex and at all that was merged into it.
 #[derive(Drop)]
 pub struct Planes {
-    // its length is the capacity, and never changes
     table: Vec<Quadric>,
-    // how many vertices are opened
-    entries: usize,
-    ghost within: { entries ≤ vec_len table },
+    // how many vertices it takes
+    capacity: usize,
+    ghost room: { capacity ≤ vec_capacity table },
 }

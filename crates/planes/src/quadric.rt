@@ -1,12 +1,13 @@
 //! Quadrics: polynomials of degree 2 in a point, with coefficients modulo 2^64.
 ghost use Rattle.std.specs.Prelude.{◌≡◌, pos, ◌+ℤ◌, ◌*ℤ◌};
 ghost use Rattle.geometry.specs.Values.{vector_of};
-ghost use Rattle.planes.specs.Quadrics.{residue, zero, plus, minus, at_point, square_of, quadric};
+ghost use Rattle.planes.specs.Quadrics.{residue, plus, minus, at_point, square_of, quadric};
 
 use geometry::{Position, normal_of};
+use std::ops::{Add, Sub};
 
 /// The coefficients, each named by its powers of the point's coordinates.
-#[derive(Clone, Copy)]
+#[derive(Clone, Copy, Default)]
 pub struct Quadric {
     pub xx: u64,
     pub yy: u64,
@@ -20,27 +21,13 @@ pub struct Quadric {
     pub one: u64,
 }
 
-impl Quadric {
-    pub fn zero() -> Quadric
-        ensures value { result ≡ zero }
-    {
-        Quadric {
-            xx: 0,
-            yy: 0,
-            zz: 0,
-            xy: 0,
-            xz: 0,
-            yz: 0,
-            x: 0,
-            y: 0,
-            z: 0,
-            one: 0,
-        }
-    }
+/// Modulo 2^64.
+impl Add for Quadric {
+    type Output = Quadric;
 
-    pub fn plus(self, other: Quadric) -> Quadric
-        ensures value { result ≡ plus self other }
-    {
+    ghost add_gives = { λ q r s. s ≡ plus q r };
+
+    fn add(self, other: Quadric) -> Quadric {
         Quadric {
             xx: self.xx.wrapping_add(other.xx),
             yy: self.yy.wrapping_add(other.yy),
@@ -54,10 +41,15 @@ impl Quadric {
             one: self.one.wrapping_add(other.one),
         }
     }
+}
 
-    pub fn minus(self, other: Quadric) -> Quadric
-        ensures value { result ≡ minus self other }
-    {
+/// Modulo 2^64.
+impl Sub for Quadric {
+    type Output = Quadric;
+
+    ghost sub_gives = { λ q r s. s ≡ minus q r };
+
+    fn sub(self, other: Quadric) -> Quadric {
         Quadric {
             xx: self.xx.wrapping_sub(other.xx),
             yy: self.yy.wrapping_sub(other.yy),
@@ -71,7 +63,9 @@ impl Quadric {
             one: self.one.wrapping_sub(other.one),
         }
     }
+}
 
+impl Quadric {
     /// The value at the point `p`.
     pub fn at(self, p: Position) -> u64
         ensures value { result ≡ at_point self (vector_of p) }

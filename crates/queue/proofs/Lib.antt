@@ -1,4 +1,3 @@
-pub mod Seats
 pub mod Ranks
 pub mod Orders
 pub mod Fills

@@ -1,9 +1,11 @@
 -- The order of keys, from the laws of the order of costs.
 use Rattle.std.proofs.Common.{◌≡◌, true, false, ◌⊎◌, is_some, Some, None, Option, refl, inl, inr, ⊎_elim, arith}
-use Rattle.std.proofs.lemmas.Bool.{both_ways}
+use Rattle.std.proofs.lemmas.Bool.{both_ways, cases_eq, cases_lt}
+use Rattle.std.proofs.lemmas.Grind.{not_there}
 use Rattle.order.specs.declared.Ordered.{Ghosts}
 use Rattle.queue.specs.Keys.{NotAfter, TieNotAfter}
-use Rattle.queue.specs.Sound.{Leads}
+use Rattle.queue.specs.Sound.{Leads, Sound, above, key_on}
+use Rattle.queue.specs.declared.heap.Heap.{Heap}
 use Rattle.queue.specs.declared.keys.Key.{Key}
 
 tie_trans : {C : Type 0} (a b c : Key C) → TieNotAfter a b → TieNotAfter b c → TieNotAfter a c
@@ -11,6 +13,16 @@ tie_trans a b c (inl h) (inl k) = inl (omega arith)
 tie_trans a b c (inl h) (inr k) = inl (omega arith)
 tie_trans a b c (inr h) (inl k) = inl (omega arith)
 tie_trans a b c (inr h) (inr k) = inr (omega arith)
+
+tie_told : {C : Type 0} (a b : Key C) → TieNotAfter a b ⊎ (TieNotAfter a b → ⊥)
+tie_told a b =
+    elim (cases_lt a.u b.u) [
+      | inl l ↦ inl (inl l)
+      | inr le ↦ elim (cases_eq a.u b.u) [
+        | inr ne ↦ inr (λ t. elim t [ inl l ↦ omega arith | inr e ↦ ne e.0 ])
+        | inl e ↦ elim (cases_lt b.w a.w) [ inl l ↦ inr (λ t. elim t [ inl k ↦ omega arith | inr k ↦ omega arith ]) | inr k ↦ inl (inr (e, k)) ]
+      ]
+    ]
 
 -- there is something on the seat
 abbrev pub There : {X : Type 0} → Option X → Type 0
@@ -34,3 +46,24 @@ module _ {C : Type 0} (o : Ghosts C) (total : (x y : C) → o.atmost x y ⊎ o.a
   leads_trans (Some a) None (Some c) t h k = absurd (both_ways false refl t)
   leads_trans (Some a) None None t h k = tt
   leads_trans None y z t h k = tt
+
+  module _ (told : (x y : C) → o.atmost x y ⊎ (o.atmost x y → ⊥)) where
+    key_told : (a b : Key C) → NotAfter o a b ⊎ (NotAfter o a b → ⊥)
+    key_told a b =
+        elim (told a.cost b.cost) [
+          | inr n ↦ inr (λ h. n h.cost)
+          | inl c ↦ elim (told b.cost a.cost) [
+            | inr n ↦ inl (record { cost = c; tie = λ back. absurd (n back) })
+            | inl d ↦ elim (tie_told a b) [ inl t ↦ inl (record { cost = c; tie = λ _. t }) | inr n ↦ inr (λ h. n (h.tie d)) ]
+          ]
+        ]
+
+    leads_told : (x y : Option (Key C)) → Leads o x y ⊎ (Leads o x y → ⊥)
+    leads_told (Some a) (Some b) = key_told a b
+    leads_told (Some a) None = inl tt
+    leads_told None y = inl tt
+
+    -- since the order is told, what is merely known of each seat holds of it
+    pub sound_is : (h : Heap C) → ∥ Sound o h ∥₁ → Sound o h
+    sound_is h t =
+        record { ranked = λ i pos lt. elim (leads_told (key_on h (above i)) (key_on h i)) [ inl l ↦ l | inr n ↦ absurd (not_there t (λ s. n (s.ranked i pos lt))) ] }

@@ -2,14 +2,13 @@
 use Rattle.std.specs.Prelude.{◌≡◌, ℕ, ◌<◌, ◌≤◌, List, Some, None, vec_items, Option, slice_index_or}
 use Rattle.order.specs.declared.Ordered.{Ghosts}
 use Rattle.queue.specs.Keys.{NotAfter}
-use Rattle.queue.specs.Sound.{Sound}
 use Rattle.queue.specs.declared.Queue.{Queue}
 use Rattle.queue.specs.declared.Refusal.{Refusal}
 use Rattle.queue.specs.declared.Refusal.TheVariants.{TooMany, NoMemory}
 use Rattle.queue.specs.declared.keys.Key.{Key}
 
-abbrev pub keys_of : {C : Type 0} → Queue C → List (Option (Key C))
-keys_of q = vec_items q.keys
+abbrev pub keys_of : {C : Type 0} {o : Ghosts C} → Queue C o → List (Option (Key C))
+keys_of q = vec_items q.heap.keys
 
 -- the candidate n has the key k
 abbrev pub Held : {C : Type 0} → List (Option (Key C)) → ℕ → Key C → Type 0
@@ -19,9 +18,9 @@ Held keys n k = slice_index_or keys n None ≡ Some k
 abbrev pub NoKeys : {C : Type 0} → List (Option (Key C)) → Type 0
 NoKeys {C} keys = (n : ℕ) (k : Key C) → Held keys n k → ⊥
 
--- where the queue is sound, k is after no candidate's key
-pub record Least {C : Type 0} (o : Ghosts C) (q : Queue C) (k : Key C) : Type 0 where
-  pub not_after : Sound o q → (n : ℕ) (l : Key C) → Held (keys_of q) n l → NotAfter o k l
+-- k is after no candidate's key
+pub record Least {C : Type 0} (o : Ghosts C) (q : Queue C o) (k : Key C) : Type 0 where
+  pub not_after : (n : ℕ) (l : Key C) → Held (keys_of q) n l → NotAfter o k l
 
 -- why no queue of that many candidates was made
 abbrev pub Why : ℕ → Refusal → Type 0

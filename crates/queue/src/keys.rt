@@ -5,7 +5,7 @@ ghost use Rattle.queue.specs.Keys.{Before, NotAfter};
 use order::Ordered;
 
 /// What a candidate is ranked by: its cost, and between costs that rank equal `u` and then `w`.
-#[derive(Clone, Copy)]
+#[derive(Clone, Copy, PartialEq, Eq, Debug)]
 pub struct Key<C> {
     pub cost: C,
     pub u: u16,
@@ -16,11 +16,5 @@ pub struct Key<C> {
 pub fn before<C: Ordered>(a: &Key<C>, b: &Key<C>) -> bool
     ensures { MatchBool result (Before C.Ordered a.now b.now) (NotAfter C.Ordered b.now a.now) }
 {
-    if !b.cost.at_most(&a.cost) {
-        return true;
-    }
-    if !a.cost.at_most(&b.cost) {
-        return false;
-    }
-    a.u < b.u || (a.u == b.u && a.w < b.w)
+    !b.cost.at_most(&a.cost) || (a.cost.at_most(&b.cost) && (a.u, a.w) < (b.u, b.w))
 }

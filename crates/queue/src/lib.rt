@@ -1,29 +1,28 @@
 //! A queue of candidates by number, each with a key or none, that tells the candidate of the least key.
 #![tactic(auto)]
 
-ghost use Rattle.std.specs.Prelude.{◌≡◌, ◌≤◌, vec_len};
-ghost use Rattle.queue.specs.Filled.{Filled};
+ghost use Rattle.std.specs.Prelude.{◌≡◌};
+ghost use Rattle.queue.specs.Sound.{Sound};
+ghost use Rattle.queue.specs.declared.Refusal.TheVariants.{NoMemory};
 
-use seating::Seating;
+use heap::Heap;
+use order::Ordered;
+use std::alloc::AllocError;
 
 mod calls;
+mod heap;
 mod keys;
 mod seating;
 mod sifting;
 
 pub use keys::Key;
 
-/// For each candidate number its key, if it has one. The candidates with a key sit on the first `count`
-/// seats, which are a binary heap: each seat but the first has a seat above it whose key is not after its
-/// own. So the least is on the first seat, and one key more or less moves few candidates.
+/// For each candidate number its key, if it has one. No seat of its heap is led by one below it, so the least
+/// is on the first seat.
 #[derive(Drop)]
-pub struct Queue<C> {
-    keys: Vec<Option<Key<C>>>,
-    seating: Seating,
-    count: usize,
-    ghost even: { vec_len seating.number ≡ vec_len keys },
-    ghost counted: { count ≤ vec_len keys },
-    ghost filled: { Filled count seating.number.items keys.items },
+pub struct Queue<C: Ordered> {
+    heap: Heap<C>,
+    ghost sound: { ∥ Sound C.Ordered heap ∥₁ },
 }
 
 /// Why no queue was made: it was to hold more than 6,144 candidates, or there was no memory.
@@ -31,4 +30,16 @@ pub struct Queue<C> {
 pub enum Refusal {
     TooMany,
     NoMemory,
+}
+
+/// The number of a candidate is at or beyond the limit.
+#[derive(Clone, Copy, PartialEq, Eq, Debug)]
+pub struct BeyondLimit;
+
+impl From<AllocError> for Refusal {
+    ghost from_gives = { λ _ r. r ≡ NoMemory };
+
+    fn from(_e: AllocError) -> Refusal {
+        Refusal::NoMemory
+    }
 }

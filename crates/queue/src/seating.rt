@@ -17,15 +17,10 @@ pub struct Seating {
 }
 
 /// 0, 1, 2 and so on below `n`.
-fn counted(heap: Global, n: usize) -> Result<Vec<u16>, AllocError>
-    requires { n ≤ 6144 }
+fn counted(heap: Global, n: u16) -> Result<Vec<u16>, AllocError>
     ensures { IfOk result (λ v. (vec_len v ≡ n) × ((k : ℕ) → k < n → slice_index v.items k ≡ k)) }
 {
-    let mut v = Vec::with_capacity(heap, n)?;
-    for k in 0..n {
-        v.push_reserved(k as u16);
-    }
-    Ok(v)
+    (0..n).collect(heap)
 }
 
 impl Seating {
@@ -34,8 +29,8 @@ impl Seating {
         requires { limit ≤ 6144 }
         ensures { IfOk result (λ s. vec_len s.number ≡ limit) }
     {
-        let number = counted(heap, limit)?;
-        let seat = counted(heap, limit)?;
+        let number = counted(heap, limit as u16)?;
+        let seat = counted(heap, limit as u16)?;
         Ok(Seating { number, seat })
     }
 
@@ -45,7 +40,7 @@ impl Seating {
         ensures value { result ≡ slice_index self.now.number.items seat }
         ensures bound { result < vec_len self.now.number }
     {
-        self.number[seat] as usize
+        usize::from(self.number[seat])
     }
 
     /// The seat of a number.
@@ -54,7 +49,7 @@ impl Seating {
         ensures there { slice_index self.now.number.items result ≡ number }
         ensures bound { result < vec_len self.now.number }
     {
-        self.seat[number] as usize
+        usize::from(self.seat[number])
     }
 
     /// The numbers on two seats change places.
@@ -64,8 +59,8 @@ impl Seating {
         ensures items { self.new.number.items ≡ swap self.old.number.items a b }
         ensures len { vec_len self.new.number ≡ vec_len self.old.number }
     {
-        let from_a = self.number[a] as usize;
-        let from_b = self.number[b] as usize;
+        let from_a = usize::from(self.number[a]);
+        let from_b = usize::from(self.number[b]);
         self.number.swap(a, b);
         self.seat.swap(from_a, from_b);
     }

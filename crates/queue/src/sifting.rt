@@ -1,9 +1,9 @@
 //! Candidates rise and sink among the seats until each seat is led by the one above it.
-ghost use Rattle.std.specs.Prelude.{◌≡◌, ℕ, ◌+◌, ◌<◌, Some, MatchBool, MatchOption};
+ghost use Rattle.std.specs.Prelude.{◌≡◌, ℕ, ◌+◌, ◌<◌, MatchBool, MatchOption};
 ghost use Rattle.queue.specs.Sound.{Exchanged, LeadsUnder, SeatLeads, Sound, SoundBut, SoundButDown, SoundButUp, Under, above, key_on};
 
-use crate::Queue;
-use crate::keys::{Key, before};
+use crate::heap::Heap;
+use crate::keys::before;
 use order::Ordered;
 
 /// The first of the two seats right below `seat`.
@@ -14,16 +14,7 @@ fn left_under(seat: usize) -> usize
     2 * seat + 1
 }
 
-impl<C: Ordered + Copy> Queue<C> {
-    /// The key on a seat that has one.
-    pub(crate) fn key_on(&self, seat: usize) -> Key<C>
-        requires { seat < self.now.count }
-        ensures { key_on self.now seat ≡ Some result }
-    {
-        let number = self.seating.number(seat);
-        self.keys[number].unwrap()
-    }
-
+impl<C: Ordered + Copy> Heap<C> {
     /// Whether the key on seat `a` comes before the one on seat `b`.
     fn precedes(&self, a: usize, b: usize) -> bool
         requires a_within { a < self.now.count }
@@ -38,15 +29,8 @@ impl<C: Ordered + Copy> Queue<C> {
         requires { seat < self.now.count }
         ensures { MatchOption result (0 < seat → SeatLeads C.Ordered self.now (above seat) seat) (λ up. (0 < seat) × (up ≡ above seat) × SeatLeads C.Ordered self.now seat up) }
     {
-        if seat == 0 {
-            return None;
-        }
-        let up = (seat - 1) / 2;
-        if self.precedes(seat, up) {
-            Some(up)
-        } else {
-            None
-        }
+        let up = seat.checked_sub(1)? / 2;
+        self.precedes(seat, up).then_some(up)
     }
 
     /// Of the seats right below `seat` the one whose key comes first.
@@ -71,11 +55,7 @@ impl<C: Ordered + Copy> Queue<C> {
         ensures { MatchOption result (LeadsUnder C.Ordered self.now seat seat) (λ down. Under self.now seat down × SeatLeads C.Ordered self.now down seat × LeadsUnder C.Ordered self.now down seat) }
     {
         let down = self.first_under(seat)?;
-        if self.precedes(down, seat) {
-            Some(down)
-        } else {
-            None
-        }
+        self.precedes(down, seat).then_some(down)
     }
 
     /// The candidates on two seats with keys change places.
@@ -91,9 +71,10 @@ impl<C: Ordered + Copy> Queue<C> {
 
     /// Brings a candidate that can only be too low up from the seat `start` to where it belongs.
     fn sift_up(&mut self, start: usize)
-        requires { start < self.old.count }
+        requires within { start < self.old.count }
+        requires rest { SoundButUp C.Ordered self.old start }
         ensures keys { self.new.keys ≡ self.old.keys }
-        ensures sound { SoundButUp C.Ordered self.old start → Sound C.Ordered self.new }
+        ensures sound { Sound C.Ordered self.new }
     {
         let mut seat = start;
         while let Some(up) = self.rises_to(seat) {
@@ -104,9 +85,10 @@ impl<C: Ordered + Copy> Queue<C> {
 
     /// Brings a candidate that can only be too high down from the seat `start` to where it belongs.
     fn sift_down(&mut self, start: usize)
-        requires { start < self.old.count }
+        requires within { start < self.old.count }
+        requires rest { SoundButDown C.Ordered self.old start }
         ensures keys { self.new.keys ≡ self.old.keys }
-        ensures sound { SoundButDown C.Ordered self.old start → Sound C.Ordered self.new }
+        ensures sound { Sound C.Ordered self.new }
     {
         let mut seat = start;
         while let Some(down) = self.sinks_to(seat) {
@@ -117,13 +99,15 @@ impl<C: Ordered + Copy> Queue<C> {
 
     /// Brings the candidate on `seat` to where it belongs.
     pub(crate) fn settle(&mut self, seat: usize)
-        requires { seat < self.old.count }
+        requires within { seat < self.old.count }
+        requires rest { SoundBut C.Ordered self.old seat }
         ensures keys { self.new.keys ≡ self.old.keys }
-        ensures sound { SoundBut C.Ordered self.old seat → Sound C.Ordered self.new }
+        ensures sound { Sound C.Ordered self.new }
     {
-        match self.rises_to(seat) {
-            Some(_) => self.sift_up(seat),
-            None => self.sift_down(seat),
+        if self.rises_to(seat).is_some() {
+            self.sift_up(seat);
+        } else {
+            self.sift_down(seat);
         }
     }
 }

@@ -1,7 +1,7 @@
 //! Gives, changes and takes away some thousand keys, and holds the queue's least to a plain search.
 #![tactic(auto)]
 
-ghost use Rattle.std.specs.Prelude.{◌≡◌, ℕ, ◌+◌, ◌<◌, ◌≤◌, true, false, IfOk, Decides, MatchOption, nat_lt};
+ghost use Rattle.std.specs.Prelude.{◌≡◌, ℕ, ◌+◌, ◌<◌, ◌≤◌, IfOk, MatchOption};
 ghost use Rattle.queue.specs.Meaning.{Held, NoKeys};
 
 use queue::{Key, Queue, Refusal};
@@ -50,55 +50,22 @@ fn any_key(dice: &mut Dice) -> Key<u64>
     Key { cost, u, w }
 }
 
-/// Whether `a` comes before `b`: by cost, then by `u`, then by `w`.
-fn earlier(a: &Key<u64>, b: &Key<u64>) -> bool
-    ensures by_cost { (a.now.cost < b.now.cost → result ≡ true) × (b.now.cost < a.now.cost → result ≡ false) }
-    ensures by_u { a.now.cost ≡ b.now.cost → (a.now.u < b.now.u → result ≡ true) × (b.now.u < a.now.u → result ≡ false) }
-    ensures by_w { a.now.cost ≡ b.now.cost → a.now.u ≡ b.now.u → result ≡ nat_lt a.now.w b.now.w }
-{
-    if a.cost != b.cost {
-        return a.cost < b.cost;
-    }
-    if a.u != b.u {
-        return a.u < b.u;
-    }
-    a.w < b.w
-}
-
-/// The least key, by looking at each.
+/// The least key, by looking at each: by cost, then by `u`, then by `w`.
 fn plain_least(keys: &[Option<Key<u64>>]) -> Option<Key<u64>>
     ensures { MatchOption result (NoKeys keys.now) (λ k. (n : ℕ) × Held keys.now n k) }
 {
-    let mut best: Option<Key<u64>> = None;
-    for slot in keys {
-        if let Some(key) = slot {
-            let first = match best {
-                None => true,
-                Some(so_far) => earlier(key, &so_far),
-            };
-            if first {
-                best = Some(*key);
-            }
-        }
-    }
-    best
-}
-
-/// Whether two keys are one.
-fn same(a: &Key<u64>, b: &Key<u64>) -> bool
-    ensures { Decides result ((a.now.cost ≡ b.now.cost) × (a.now.u ≡ b.now.u) × (a.now.w ≡ b.now.w)) }
-{
-    a.cost == b.cost && a.u == b.u && a.w == b.w
+    keys.iter()
+        .filter_map(|key| *key)
+        .min_by_key(|key| (key.cost, key.u, key.w))
 }
 
 /// Whether the queue's least has the key that the plain search finds, and is a candidate that has it.
 fn agrees(queue: &Queue<u64>, keys: &[Option<Key<u64>>]) -> bool {
     match (queue.least(), plain_least(keys)) {
         (None, None) => true,
-        (Some((number, key)), Some(plain)) => match keys.get(number) {
-            Some(Some(held)) => same(&key, &plain) && same(&key, held),
-            _ => false,
-        },
+        (Some((number, key)), Some(plain)) => {
+            key == plain && keys.get(number) == Some(&Some(key))
+        }
         _ => false,
     }
 }
@@ -123,9 +90,9 @@ fn play(heap: Global) -> Result<Tally, Refusal>
         } else {
             Some(any_key(&mut dice))
         };
-        let accepted = queue.set(number, key);
-        if number < CANDIDATES {
-            keys[number] = key;
+        let accepted = queue.set(number, key).is_ok();
+        if let Some(held) = keys.get_mut(number) {
+            *held = key;
         }
         if !accepted {
             tally.refused += 1;
@@ -142,18 +109,16 @@ fn play(heap: Global) -> Result<Tally, Refusal>
 }
 
 fn main(rt: HostRuntime) -> io::Result<()> {
-    match play(rt.alloc()) {
-        Ok(tally) => {
-            let Tally {
-                given,
-                taken,
-                refused,
-                agreed,
-            } = tally;
-            println!(rt;
-                "{given} keys given, {taken} taken away, {refused} refused; {agreed} of {ROUNDS} rounds agreed"
-            )
-        }
-        Err(_) => println!(rt; "no queue"),
-    }
+    let Ok(tally) = play(rt.alloc()) else {
+        return println!(rt; "no queue");
+    };
+    let Tally {
+        given,
+        taken,
+        refused,
+        agreed,
+    } = tally;
+    println!(rt;
+        "{given} keys given, {taken} taken away, {refused} refused; {agreed} of {ROUNDS} rounds agreed"
+    )
 }

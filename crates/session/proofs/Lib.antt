@@ -1,4 +1,3 @@
-pub mod Cuts
 pub mod Written
 pub mod Rules
 pub mod Runs
@@ -6,3 +5,8 @@ pub mod JudgedOnce
 pub mod Decoded
 pub mod RepliedOnce
 pub mod SessionOnce
+pub mod Stills
+pub mod CalledOnce
+pub mod Callings
+pub mod Drafts
+pub mod Hulls

@@ -1,6 +1,8 @@
 -- What stands in the answer after the last part of a line.
-use Rattle.std.proofs.Common.{◌≡◌, ℕ, ◌+◌, ◌*◌, cond, List, [], ◌∷◌, ◌++◌, get_or, is_ok, IfOk, Ok, Err, Result, sym, refl, ap, ◌∙◌, append_assoc, append-nil, add-one}
-use Rattle.session.specs.Lines.{Line, triangle, text, texts, triangle_lines}
+use Rattle.std.proofs.Common.{◌≡◌, ℕ, ◌+◌, ◌*◌, true, false, cond, List, [], ◌∷◌, ◌++◌, is_ok, IfOk, Ok, Err, Result, sym, refl, ap, ◌∙◌, append_assoc, append-nil, add-one}
+use Rattle.surface.specs.Surface.{Surface, next, prev}
+use Rattle.surface.proofs.Tris.{second_is, third_is}
+use Rattle.session.specs.Lines.{Line, triangle, text, texts, triangle_line, triangle_lines}
 
 pub last_part : {T E : Type 0} (r : Result T E) (was end more whole : List ℕ) → end ≡ cond (is_ok r) (was ++ more) was → was ++ more ≡ whole → IfOk r (λ _. end ≡ whole)
 last_part (Ok x) was end more whole e w = e ∙ w
@@ -21,9 +23,16 @@ more_lines start was end ls more e f =
 pub one_line : (l : Line) → text l ≡ texts (l ∷ [])
 one_line l = sym (append-nil (text l))
 
--- the line of triangle t after those of the triangles before it
-pub more_triangles : (start was end cs : List ℕ) (t : ℕ) → was ≡ start ++ texts (triangle_lines cs t) → end ≡ was ++ text (triangle t (get_or cs (3 * t) 0) (get_or cs (3 * t + 1) 0) (get_or cs (3 * t + 2) 0)) → end ≡ start ++ texts (triangle_lines cs (t + 1))
-more_triangles start was end cs t e f =
-    let l = triangle t (get_or cs (3 * t) 0) (get_or cs (3 * t + 1) 0) (get_or cs (3 * t + 2) 0) in
-    more_lines start was end (triangle_lines cs t) (l ∷ []) e (f ∙ ap (λ (b : List ℕ). was ++ b) (one_line l))
-    ∙ ap (λ (n : ℕ). start ++ texts (triangle_lines cs n)) (sym (add-one t))
+-- the line of a triangle, from the corners as its first half-edge tells them
+pub same_line : (S : Surface) (t a b c : ℕ) → a ≡ S.corner (3 * t) → b ≡ S.corner (next (3 * t)) → c ≡ S.corner (prev (3 * t)) → text (triangle t a b c) ≡ text (triangle_line S t)
+same_line S t a b c p q r = rw (p, q ∙ ap S.corner (second_is t), r ∙ ap S.corner (third_is t)) refl
+
+-- the line of triangle t, if it is live, after those of the triangles before it
+module _ (S : Surface) (start was : List ℕ) (t : ℕ) (e : was ≡ start ++ texts (triangle_lines S t)) where
+  pub one_triangle : (end : List ℕ) → S.alive t ≡ true → end ≡ was ++ text (triangle_line S t) → end ≡ start ++ texts (triangle_lines S (t + 1))
+  one_triangle end live f =
+      more_lines start was end (triangle_lines S t) (triangle_line S t ∷ []) e (f ∙ ap (λ (b : List ℕ). was ++ b) (one_line (triangle_line S t)))
+      ∙ rw (add-one t, live) refl
+
+  pub no_triangle : S.alive t ≡ false → was ≡ start ++ texts (triangle_lines S (t + 1))
+  no_triangle dead = e ∙ rw (add-one t, dead, append-nil) refl

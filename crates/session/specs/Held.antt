@@ -2,28 +2,41 @@
 use Rattle.std.specs.Prelude.{ℕ, Bool, false, List, []}
 use Rattle.gathering.specs.Model.{positions, corners}
 use Rattle.geometry.specs.declared.Position.{Position}
-use Rattle.judging.specs.declared.verdict.Counts.{Counts}
+use Rattle.mesh.specs.declared.mesh.Mesh.{Mesh}
+use Rattle.ledger.specs.Book.{Book}
+use Rattle.opened_surface.specs.Parts.{mesh_of}
+use Rattle.opened_surface.specs.Tied.{book_of}
 use Rattle.session.specs.declared.draft.Draft.{Draft}
+use Rattle.session.specs.declared.gauges.Gauge.{Gauge}
+use Rattle.session.specs.declared.gauges.Gauge.TheVariants as gauge
+use Rattle.session.specs.declared.hull.Hull.{Hull}
+use Rattle.session.specs.declared.hull.Hull.TheVariants.{Planes, Sweep}
 use Rattle.session.specs.declared.state.State.{State}
 use Rattle.session.specs.declared.state.State.TheVariants.{Gathering, Opened}
 
 pub data Held : Type 0 where
   -- whether there is a name, the positions of the gathered vertices, and the corners of the triangles, three each
   gathering : (named : Bool) (ps : List Position) (cs : List ℕ) → Held
-  -- the surface of these vertices and triangles, with its counts
-  opened : (ps : List Position) (cs : List ℕ) (n : Counts) → Held
+  -- the ledger's book of a surface that was opened on this gauge
+  opened : (on : Gauge) (b : Book) → Held
 
 abbrev pub held_draft : Draft → Held
 held_draft d = gathering d.named (positions d.gathering) (corners d.gathering)
 
+abbrev pub hull_gauge : Hull → Gauge
+hull_gauge (Planes x) = gauge.Planes
+hull_gauge (Sweep x) = gauge.Sweep
+
+abbrev pub hull_mesh : Hull → Mesh
+hull_mesh (Planes x) = mesh_of x
+hull_mesh (Sweep x) = mesh_of x
+
+abbrev pub held_hull : Hull → Held
+held_hull h = opened (hull_gauge h) (book_of (hull_mesh h))
+
 abbrev pub held : State → Held
 held (Gathering d) = held_draft d
-held (Opened o) = opened (positions o.gathering) (corners o.gathering) o.counts
-
--- the corners of the gathered or live triangles
-abbrev pub corners_of : Held → List ℕ
-corners_of (gathering named ps cs) = cs
-corners_of (opened ps cs n) = cs
+held (Opened h) = held_hull h
 
 -- what a session holds at first
 abbrev pub empty : Held

@@ -1,8 +1,8 @@
 -- What is proved of sessions.
-use Rattle.std.specs.Prelude.{◌≡◌, ℕ, List}
+use Rattle.std.specs.Prelude.{◌≡◌, ℕ, Bool, List}
 use Rattle.session.specs.Lines.{Line}
 use Rattle.session.specs.Session.{Answered}
 
--- the rules leave no choice: an input is answered by one list of lines
+-- the rules leave no choice: with calls or without, an input is answered by one list of lines
 abbrev pub OneAnswer : Type 0
-OneAnswer = (input : List ℕ) (ls ms : List Line) → Answered input ls → Answered input ms → ls ≡ ms
+OneAnswer = (calls : Bool) (input : List ℕ) (ls ms : List Line) → Answered calls input ls → Answered calls input ms → ls ≡ ms

@@ -3,7 +3,11 @@ pub mod Reading
 pub mod Numbers
 pub mod Lines
 pub mod Gauges
+pub mod Calls
+pub mod Answers
 pub mod Held
 pub mod Replies
 pub mod Session
+pub mod Still
 pub mod Laws
+pub mod Back

@@ -1,15 +1,16 @@
 -- The numbers of the refusals.
 use Rattle.std.specs.Prelude.{ℕ}
 use Rattle.gathering.specs.Refusals.{vertex_number, triangle_number}
-use Rattle.judging.specs.Numbers.{flaw_number}
+use Rattle.ledger.specs.Numbers.{number as call_number}
+use Rattle.opened_surface.specs.Openings.{open_number}
 use Rattle.session.specs.declared.refusal.Refusal.{Refusal}
-use Rattle.session.specs.declared.refusal.Refusal.TheVariants.{UnknownCommand, MissingOperands, OtherState, Name, TooLong, UnknownGauge, Vertex, Triangle, Surface, GaugeTooSmall}
+use Rattle.session.specs.declared.refusal.Refusal.TheVariants.{UnknownCommand, MissingOperands, OtherState, Name, TooLong, UnknownGauge, Vertex, Triangle, Open, Call}
 
 abbrev pub number : Refusal → ℕ
 number (Vertex e) = vertex_number e
 number (Triangle e) = triangle_number e
-number (Surface flaw) = flaw_number flaw
-number GaugeTooSmall = 12
+number (Open e) = open_number e
+number (Call e) = call_number e
 number UnknownCommand = 21
 number MissingOperands = 22
 number OtherState = 23

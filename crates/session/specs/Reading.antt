@@ -1,19 +1,18 @@
--- Which command stands at an offset of the input.
-use Rattle.std.specs.Prelude.{◌≡◌, ℕ, ◌+◌, ◌<◌, ◌≤◌, List, ◌++◌, length, drop, slice_index}
+-- Which command some bytes begin with.
+use Rattle.std.specs.Prelude.{◌≡◌, ℕ, Bool, List, [], ◌∷◌, ◌++◌}
 use Rattle.session.specs.declared.command.Command.{Command}
 use Rattle.session.specs.declared.command.Fault.{Fault}
-use Rattle.session.specs.declared.command.Fault.TheVariants.{Over, Unknown, Missing}
-use Rattle.session.specs.Spelled as spell
-use Rattle.session.specs.Spelled.{spelled}
+use Rattle.session.specs.declared.command.Fault.TheVariants as fault
+use Rattle.session.specs.declared.command.Fault.TheVariants.{Over}
+use Rattle.session.specs.Spelled.{spelled, Known, Unknown, Missing}
 
--- the command c stands at `at`, and what follows it begins at `end`
-pub record Read (input : List ℕ) (at : ℕ) (c : Command) (end : ℕ) : Type 0 where
-  pub bytes : drop at input ≡ spelled c ++ drop end input
-  pub far : end ≡ at + length (spelled c)
-  pub within : end ≤ length input
+-- the bytes begin with the command c of the session, and the rest follows it
+pub record Read (calls : Bool) (bytes : List ℕ) (c : Command) (rest : List ℕ) : Type 0 where
+  pub known : Known calls c
+  pub bytes_are : bytes ≡ spelled c ++ rest
 
--- no command stands at `at`, by this fault
-abbrev pub ReadFault : List ℕ → ℕ → Fault → Type 0
-ReadFault input at Over = length input ≤ at
-ReadFault input at Unknown = (at < length input) × spell.Unknown (slice_index input at)
-ReadFault input at Missing = spell.Missing (drop at input)
+-- the bytes begin with no command, by this fault
+abbrev pub ReadFault : Bool → List ℕ → Fault → Type 0
+ReadFault calls bytes Over = bytes ≡ []
+ReadFault calls bytes fault.Unknown = (b : ℕ) × (rest : List ℕ) × (bytes ≡ b ∷ rest) × Unknown calls b
+ReadFault calls bytes fault.Missing = Missing calls bytes

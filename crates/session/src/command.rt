@@ -1,7 +1,10 @@
 //! The commands, and how they are read.
-ghost use Rattle.std.specs.Prelude.{◌≡◌, ◌+◌, ◌-◌, ◌/◌, ◌%◌, ◌<◌, ◌≤◌, ◌++◌, length, drop, MatchResult, slice_index};
-ghost use Rattle.session.specs.Spelled.{word, stops as stops_after};
+ghost use Rattle.std.specs.Prelude.{◌≡◌, ◌<◌, ◌∷◌, ◌++◌, Bool, true, false, length, MatchResult};
+ghost use Rattle.session.specs.Spelled.{word, stops as stops_after, Unknown, Missing};
 ghost use Rattle.session.specs.Reading.{Read, ReadFault};
+ghost use Rattle.session.specs.declared.command.Command.TheVariants.{Call as call_command};
+
+use ledger::call::Call;
 
 /// One command. Its name is the input's own bytes.
 #[derive(Clone, Copy)]
@@ -14,6 +17,8 @@ pub enum Command<'a> {
     Triangle(u16, u16, u16),
     /// Open the surface, with the gauge of this number.
     Open(u8),
+    /// Make a call on the opened surface.
+    Call(Call),
     /// Write the live triangles.
     Write,
     End,
@@ -31,31 +36,34 @@ pub enum Fault {
 }
 
 impl<'a> Command<'a> {
-    /// The command whose first byte stands at `at`, and where the next one begins.
-    pub fn read(input: &'a [u8], at: usize) -> Result<(Command<'a>, usize), Fault>
-        ensures read { MatchResult result (λ p. Read input.now at p.0 p.1) (ReadFault input.now at) }
+    /// The command that the bytes begin with, and the bytes after it. Calls are read only where `CALLS` is true.
+    pub fn read<const CALLS: bool>(bytes: &'a [u8]) -> Result<(Command<'a>, &'a [u8]), Fault>
+        ensures read { MatchResult result (λ p. Read CALLS bytes.now p.0 p.1.now) (ReadFault CALLS bytes.now) }
     {
-        if at >= input.len() {
-            return Err(Fault::Over);
-        }
-        match input[at] {
-            b'N' => read_name(input, at),
+        let (&letter, rest) = bytes.split_first().ok_or(Fault::Over)?;
+        match letter {
+            b'N' => {
+                let (name, rest) = read_name(rest)?;
+                Ok((Command::Name(name), rest))
+            }
             b'V' => {
-                let (x, y, z) = read_words(input, at)?;
-                Ok((Command::Vertex(x, y, z), at + 7))
+                let ((x, y, z), rest) = read_words(rest)?;
+                Ok((Command::Vertex(x, y, z), rest))
             }
             b'T' => {
-                let (a, b, c) = read_words(input, at)?;
-                Ok((Command::Triangle(a, b, c), at + 7))
+                let ((a, b, c), rest) = read_words(rest)?;
+                Ok((Command::Triangle(a, b, c), rest))
             }
             b'O' => {
-                if input.len() - at < 2 {
-                    return Err(Fault::Missing);
-                }
-                Ok((Command::Open(input[at + 1]), at + 2))
+                let (&gauge, rest) = rest.split_first().ok_or(Fault::Missing)?;
+                Ok((Command::Open(gauge), rest))
             }
-            b'W' => Ok((Command::Write, at + 1)),
-            b'E' => Ok((Command::End, at + 1)),
+            b'W' => Ok((Command::Write, rest)),
+            b'E' => Ok((Command::End, rest)),
+            _ if CALLS => {
+                let (call, rest) = read_call(letter, rest)?;
+                Ok((Command::Call(call), rest))
+            }
             _ => Err(Fault::Unknown),
         }
     }
@@ -64,53 +72,57 @@ impl<'a> Command<'a> {
     pub fn stops(&self) -> bool
         ensures value { result ≡ stops_after self.now }
     {
-        match self {
-            Command::End => true,
-            _ => false,
+        matches!(self, Command::End)
+    }
+}
+
+// A name, after its letter: a count and that many bytes.
+fn read_name(bytes: &[u8]) -> Result<(&[u8], &[u8]), Fault>
+    ensures read { MatchResult result (λ p. bytes.now ≡ length p.0.now ∷ p.0.now ++ p.1.now) (λ e. (e ≡ Fault.Missing) × ((calls : Bool) → Missing calls (78 ∷ bytes.now))) }
+{
+    let (&count, rest) = bytes.split_first().ok_or(Fault::Missing)?;
+    rest.split_at_checked(usize::from(count))
+        .ok_or(Fault::Missing)
+}
+
+// The call of this letter, by the operands that the bytes begin with.
+fn read_call(letter: u8, bytes: &[u8]) -> Result<(Call, &[u8]), Fault>
+    requires other { Unknown false letter }
+    ensures read { MatchResult result (λ p. Read true (letter ∷ bytes.now) (call_command p.0) p.1.now) (ReadFault true (letter ∷ bytes.now)) }
+{
+    match letter {
+        b'C' => {
+            let (u, rest) = read_word(bytes)?;
+            let (w, rest) = read_word(rest)?;
+            Ok((Call::Collapse(u, w), rest))
         }
+        b'S' => Ok((Call::Step, bytes)),
+        b'P' => Ok((Call::Split, bytes)),
+        b'R' => Ok((Call::Redo, bytes)),
+        b'G' => {
+            let (target, rest) = read_word(bytes)?;
+            Ok((Call::Go(usize::from(target)), rest))
+        }
+        _ => Err(Fault::Unknown),
     }
 }
 
-// The name command at `at`: a count byte and that many bytes.
-fn read_name<'a>(input: &'a [u8], at: usize) -> Result<(Command<'a>, usize), Fault>
-    requires named { slice_index input.now at ≡ 78 }
-    requires within { at < length input.now }
-    ensures read { MatchResult result (λ p. Read input.now at p.0 p.1) (ReadFault input.now at) }
+// The three numbers that the bytes begin with.
+fn read_words(bytes: &[u8]) -> Result<((u16, u16, u16), &[u8]), Fault>
+    ensures read { MatchResult result (λ p. bytes.now ≡ word p.0.0 ++ (word p.0.1 ++ (word p.0.2 ++ p.1.now))) (λ e. (e ≡ Fault.Missing) × (length bytes.now < 6)) }
 {
-    let left = input.len() - at - 1;
-    if left < 1 {
-        return Err(Fault::Missing);
-    }
-    let count = input[at + 1] as usize;
-    if left - 1 < count {
-        return Err(Fault::Missing);
-    }
-    let end = at + 2 + count;
-    Ok((Command::Name(&input[at + 2..end]), end))
+    let (a, rest) = read_word(bytes)?;
+    let (b, rest) = read_word(rest)?;
+    let (c, rest) = read_word(rest)?;
+    Ok(((a, b, c), rest))
 }
 
-// The three numbers after the letter at `at`, unless the input ends before they do.
-fn read_words(input: &[u8], at: usize) -> Result<(u16, u16, u16), Fault>
-    requires within { at < length input.now }
-    ensures read { MatchResult result (λ p. (at + 7 ≤ length input.now) × (drop (at + 1) input.now ≡ word p.0 ++ (word p.1 ++ (word p.2 ++ drop (at + 7) input.now)))) (λ e. (e ≡ Fault.Missing) × (length input.now < at + 7)) }
+// The number of 16 bits that the bytes begin with, low byte first.
+fn read_word(bytes: &[u8]) -> Result<(u16, &[u8]), Fault>
+    ensures read { MatchResult result (λ p. bytes.now ≡ word p.0 ++ p.1.now) (λ e. (e ≡ Fault.Missing) × (length bytes.now < 2)) }
 {
-    if input.len() - at < 7 {
+    let [low, high, rest @ ..] = bytes else {
         return Err(Fault::Missing);
-    }
-    Ok((
-        read_word(input, at + 1),
-        read_word(input, at + 3),
-        read_word(input, at + 5),
-    ))
-}
-
-// The number of 16 bits that stands at `at`, low byte first.
-fn read_word(input: &[u8], at: usize) -> u16
-    requires within { at + 1 < length input.now }
-    ensures low { result % 256 ≡ slice_index input.now at }
-    ensures high { result / 256 ≡ slice_index input.now (at + 1) }
-{
-    let low = input[at] as u16;
-    let high = input[at + 1] as u16;
-    low + 256 * high
+    };
+    Ok((u16::from_le_bytes([*low, *high]), rest))
 }

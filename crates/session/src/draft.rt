@@ -1,20 +1,28 @@
 //! The surface while it is being gathered.
 ghost use Rattle.std.specs.Prelude.{IfOk};
+ghost use Rattle.session.specs.Back.{BackWith};
+ghost use Rattle.session.specs.Gauges.{gauge_number};
 ghost use Rattle.session.specs.Held.{held, held_draft};
 ghost use Rattle.session.specs.Replies.{Replied};
+ghost use Rattle.session.specs.declared.gauges.Gauge.TheVariants.{Planes as on_planes, Sweep as on_sweep};
 ghost use Rattle.session.specs.declared.command.Command.TheVariants.{Name, Vertex, Triangle, Open};
 
-use crate::gauge::Gauge;
+use crate::gauges::Gauge;
+use crate::hull::Hull;
 use crate::refusal::Refusal;
 use crate::reply::Reply;
-use crate::state::{Opened, State};
+use crate::state::State;
 use gathering::gathering::Gathering;
-use judging::judge::judge;
-use judging::verdict::Verdict;
+use opened_surface::opened::opening::{Unopened, Why, open};
+use planes::planes::Planes;
 use std::alloc::{AllocError, Global};
+use sweep::Sweep;
 
 /// The longest name, in bytes.
 const MOST_NAME: usize = 40;
+
+/// How many vertices a surface may have that is opened on planes.
+const PLANES_ENTRIES: usize = 400;
 
 /// What is gathered, and whether the hold has its name.
 #[derive(Drop)]
@@ -25,77 +33,103 @@ pub struct Draft {
 
 impl Draft {
     /// Takes the first name, unless it is empty or longer than 40 bytes.
-    pub fn name<'a>(self, name: &'a [u8]) -> (State, Reply<'a>)
-        ensures replied { Replied (held_draft self) (Name name.entry) result.1 (held result.0) }
+    pub fn name<'a>(&mut self, name: &'a [u8]) -> Result<Reply<'a>, Refusal>
+        ensures replied { Replied (held_draft self.old) (Name name.entry) result (held_draft self.new) }
     {
-        if self.named || name.len() == 0 || name.len() > MOST_NAME {
-            return (State::Gathering(self), Reply::Refused(Refusal::Name));
+        if self.named || name.is_empty() || name.len() > MOST_NAME {
+            return Err(Refusal::Name);
         }
-        let Draft {
-            gathering,
-            named: _,
-        } = self;
-        (
-            State::Gathering(Draft {
-                gathering,
-                named: true,
-            }),
-            Reply::Named(name),
-        )
+        self.named = true;
+        Ok(Reply::Named(name))
     }
 
-    pub fn vertex<'a>(mut self, x: u16, y: u16, z: u16) -> (State, Reply<'a>)
-        ensures replied { Replied (held_draft self) (Vertex x y z) result.1 (held result.0) }
+    pub fn vertex<'a>(&mut self, x: u16, y: u16, z: u16) -> Result<Reply<'a>, Refusal>
+        ensures replied { Replied (held_draft self.old) (Vertex x y z) result (held_draft self.new) }
     {
-        let reply = match self.gathering.vertex(x, y, z) {
-            Ok(()) => Reply::Nothing,
-            Err(refusal) => Reply::Refused(Refusal::Vertex(refusal)),
-        };
-        (State::Gathering(self), reply)
+        self.gathering.vertex(x, y, z)?;
+        Ok(Reply::Nothing)
     }
 
-    pub fn triangle<'a>(mut self, a: u16, b: u16, c: u16) -> (State, Reply<'a>)
-        ensures replied { Replied (held_draft self) (Triangle a b c) result.1 (held result.0) }
+    pub fn triangle<'a>(&mut self, a: u16, b: u16, c: u16) -> Result<Reply<'a>, Refusal>
+        ensures replied { Replied (held_draft self.old) (Triangle a b c) result (held_draft self.new) }
     {
-        let reply = match self.gathering.triangle(a, b, c) {
-            Ok(()) => Reply::Nothing,
-            Err(refusal) => Reply::Refused(Refusal::Triangle(refusal)),
-        };
-        (State::Gathering(self), reply)
+        self.gathering.triangle(a, b, c)?;
+        Ok(Reply::Nothing)
     }
 
-    /// Opens the surface, if there is a gauge of this number, the judge finds no flaw and the gauge takes that many vertices.
-    pub fn open<'a>(self, heap: Global, number: u8) -> Result<(State, Reply<'a>), AllocError>
+    /// Opens the surface on the gauge of this number.
+    pub fn open<'a>(
+        self,
+        heap: Global,
+        number: u8,
+    ) -> Result<(State, Result<Reply<'a>, Refusal>), AllocError>
         ensures replied { IfOk result (λ p. Replied (held_draft self) (Open number) p.1 (held p.0)) }
     {
-        let Some(gauge) = Gauge::numbered(number) else {
-            return Ok((
-                State::Gathering(self),
-                Reply::Refused(Refusal::UnknownGauge),
-            ));
-        };
-        let counts = match judge(heap, &self.gathering)? {
-            Verdict::Refused(flaw) => {
-                return Ok((
-                    State::Gathering(self),
-                    Reply::Refused(Refusal::Surface(flaw)),
-                ));
-            }
-            Verdict::Accepted(counts) => counts,
-        };
-        if self.gathering.positions().len() > gauge.most_vertices() {
-            return Ok((
-                State::Gathering(self),
-                Reply::Refused(Refusal::GaugeTooSmall),
-            ));
+        match Gauge::try_from(number) {
+            Ok(Gauge::Planes) => self.open_on_planes(heap),
+            Ok(Gauge::Sweep) => self.open_on_sweep(heap),
+            Err(why) => Ok((State::Gathering(self), Err(why))),
         }
-        let Draft {
-            gathering,
-            named: _,
-        } = self;
-        Ok((
-            State::Opened(Opened { gathering, counts }),
-            Reply::Opened(counts),
-        ))
+    }
+
+    // Kept: one body for both gauges needs a bound that puts an opened surface into `Hull`, with its clauses, and is longer than the two.
+    fn open_on_planes<'a>(
+        self,
+        heap: Global,
+    ) -> Result<(State, Result<Reply<'a>, Refusal>), AllocError>
+        ensures replied { IfOk result (λ p. Replied (held_draft self) (Open (gauge_number on_planes)) p.1 (held p.0)) }
+    {
+        let Draft { gathering, named } = self;
+        let gauge = Planes::new(heap, PLANES_ENTRIES)?;
+        match open(heap, gathering, gauge) {
+            Ok(opened) => {
+                let counts = opened.counts();
+                Ok((
+                    State::Opened(Hull::Planes(opened)),
+                    Ok(Reply::Opened(counts)),
+                ))
+            }
+            Err(unopened) => not_opened(unopened, named),
+        }
+    }
+
+    fn open_on_sweep<'a>(
+        self,
+        heap: Global,
+    ) -> Result<(State, Result<Reply<'a>, Refusal>), AllocError>
+        ensures replied { IfOk result (λ p. Replied (held_draft self) (Open (gauge_number on_sweep)) p.1 (held p.0)) }
+    {
+        let Draft { gathering, named } = self;
+        match open(heap, gathering, Sweep::new()) {
+            Ok(opened) => {
+                let counts = opened.counts();
+                Ok((
+                    State::Opened(Hull::Sweep(opened)),
+                    Ok(Reply::Opened(counts)),
+                ))
+            }
+            Err(unopened) => not_opened(unopened, named),
+        }
+    }
+}
+
+/// The draft as it was, with the refusal, or want of memory.
+fn not_opened<'a, G: Drop>(
+    unopened: Unopened<G>,
+    named: bool,
+) -> Result<(State, Result<Reply<'a>, Refusal>), AllocError>
+    ensures back { IfOk result (λ p. BackWith unopened.gathering named unopened.why p.0 p.1) }
+{
+    let Unopened {
+        gathering,
+        gauge: _,
+        why,
+    } = unopened;
+    match why {
+        Why::Refused(refusal) => Ok((
+            State::Gathering(Draft { gathering, named }),
+            Err(refusal.into()),
+        )),
+        Why::NoMemory => Err(AllocError),
     }
 }

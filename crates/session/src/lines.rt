@@ -1,13 +1,15 @@
 //! The lines of the answer.
-ghost use Rattle.std.specs.Prelude.{◌≡◌, ◌++◌, OnOk};
-ghost use Rattle.gathering.specs.Model.{triangle_count};
-ghost use Rattle.session.specs.Lines.{text, texts, triangle_lines, named, opened, triangle, ended, refused};
+ghost use Rattle.std.specs.Prelude.{◌≡◌, ◌++◌, vec_len, OnOk};
+ghost use Rattle.mesh.specs.Model.{held};
+ghost use Rattle.session.specs.Lines.{text, texts, triangle_lines, after, newline, four, numbers, named, triangle, refused};
 ghost use Rattle.session.specs.Numbers.{number as number_of};
 ghost use Rattle.session.specs.Session.{fault_lines};
 
 use crate::command::Fault;
 use crate::refusal::Refusal;
+use crate::reply::Priced;
 use judging::verdict::Counts;
+use mesh::halfedges::HalfEdges;
 use std::alloc::{AllocError, Global};
 
 /// The line of a name that was taken.
@@ -19,17 +21,48 @@ pub fn write_name(out: &mut Vec<u8>, name: &[u8]) -> Result<(), AllocError>
     out.extend_from_slice(b"\n")
 }
 
-/// The line of a surface that was opened.
-pub fn write_open(heap: Global, out: &mut Vec<u8>, counts: Counts) -> Result<(), AllocError>
-    ensures written { OnOk result (out.new.items ≡ out.old.items ++ text (opened counts)) }
+/// The line of a word and counts.
+pub fn write_counts(
+    heap: Global,
+    out: &mut Vec<u8>,
+    word: &str,
+    counts: Counts,
+) -> Result<(), AllocError>
+    ensures written { OnOk result (out.new.items ≡ out.old.items ++ (word.now ++ four counts)) }
 {
-    let Counts {
-        vertices,
-        triangles,
-        euler,
-        pieces,
-    } = counts;
-    let line = format!(in heap; "open {vertices} {triangles} {euler} {pieces}\n")?;
+    let line = format!(in heap;
+        "{word} {} {} {} {}\n",
+        counts.vertices, counts.triangles, counts.euler, counts.pieces,
+    )?;
+    out.extend_from_slice(line.as_bytes())
+}
+
+/// The line of a word and a collapse, with the figures of its cost.
+pub fn write_priced(
+    heap: Global,
+    out: &mut Vec<u8>,
+    word: &str,
+    priced: Priced,
+) -> Result<(), AllocError>
+    ensures written { OnOk result (out.new.items ≡ out.old.items ++ (word.now ++ numbers priced.u priced.w priced.amount priced.divisor)) }
+{
+    let line = format!(in heap;
+        "{word} {} {} {} {}\n",
+        priced.u, priced.w, priced.amount, priced.divisor,
+    )?;
+    out.extend_from_slice(line.as_bytes())
+}
+
+/// The line of a word and a position.
+pub fn write_position(
+    heap: Global,
+    out: &mut Vec<u8>,
+    word: &str,
+    position: usize,
+) -> Result<(), AllocError>
+    ensures written { OnOk result (out.new.items ≡ out.old.items ++ (word.now ++ (after position ++ newline))) }
+{
+    let line = format!(in heap; "{word} {position}\n")?;
     out.extend_from_slice(line.as_bytes())
 }
 
@@ -48,35 +81,17 @@ pub fn write_triangle(
     out.extend_from_slice(line.as_bytes())
 }
 
-/// A line for each triangle, by rising number.
-pub fn write_triangles(heap: Global, out: &mut Vec<u8>, corners: &[u16]) -> Result<(), AllocError>
-    ensures written { OnOk result (out.new.items ≡ out.old.items ++ texts (triangle_lines corners.now (triangle_count corners.now))) }
+/// A line for each live triangle, by rising number.
+pub fn write_triangles(heap: Global, out: &mut Vec<u8>, edges: &HalfEdges) -> Result<(), AllocError>
+    ensures written { OnOk result (out.new.items ≡ out.old.items ++ texts (triangle_lines (held edges.now) (vec_len edges.now.triangles))) }
 {
-    for t in 0..corners.len() / 3 {
-        write_triangle(
-            heap,
-            out,
-            t,
-            corners[3 * t],
-            corners[3 * t + 1],
-            corners[3 * t + 2],
-        )?;
+    for t in 0..edges.half_edge_count() / 3 {
+        let h = (3 * t) as u16;
+        if edges.is_live(h) {
+            write_triangle(heap, out, t, edges.start(h), edges.end(h), edges.third(h))?;
+        }
     }
     Ok(())
-}
-
-/// The last line of a session that was ended.
-pub fn write_end(heap: Global, out: &mut Vec<u8>, counts: Counts) -> Result<(), AllocError>
-    ensures written { OnOk result (out.new.items ≡ out.old.items ++ text (ended counts)) }
-{
-    let Counts {
-        vertices,
-        triangles,
-        euler,
-        pieces,
-    } = counts;
-    let line = format!(in heap; "end {vertices} {triangles} {euler} {pieces}\n")?;
-    out.extend_from_slice(line.as_bytes())
 }
 
 /// The line of a refused command, whose first byte stands at `at`.

@@ -1,9 +1,13 @@
 //! What a session refuses, and by which number.
 ghost use Rattle.std.specs.Prelude.{◌≡◌};
+ghost use Rattle.opened_surface.specs.Calls.{refusal_of};
 ghost use Rattle.session.specs.Numbers.{number as number_of};
+ghost use Rattle.session.specs.declared.refusal.Refusal.TheVariants.{Vertex as vertex_refused, Triangle as triangle_refused, Open as not_opened, Call as call_refused};
 
 use gathering::refusal::{TriangleRefusal, VertexRefusal};
-use judging::verdict::Flaw;
+use ledger::call;
+use mesh::mesh::permits::CollapseRefusal;
+use opened_surface::opened::opening::OpenRefusal;
 
 /// Why a command, or the whole input, is refused.
 #[derive(Clone, Copy)]
@@ -24,10 +28,10 @@ pub enum Refusal {
     Vertex(VertexRefusal),
     /// The triangle is not taken.
     Triangle(TriangleRefusal),
-    /// The gathered surface breaks a rule.
-    Surface(Flaw),
-    /// There are more vertices than the gauge takes.
-    GaugeTooSmall,
+    /// The gathered surface is not opened.
+    Open(OpenRefusal),
+    /// The call on the opened surface is refused.
+    Call(call::Refusal),
 }
 
 impl Refusal {
@@ -37,8 +41,8 @@ impl Refusal {
         match self {
             Refusal::Vertex(refusal) => refusal.number(),
             Refusal::Triangle(refusal) => refusal.number(),
-            Refusal::Surface(flaw) => flaw.number(),
-            Refusal::GaugeTooSmall => 12,
+            Refusal::Open(refusal) => refusal.number(),
+            Refusal::Call(refusal) => refusal.number(),
             Refusal::UnknownCommand => 21,
             Refusal::MissingOperands => 22,
             Refusal::OtherState => 23,
@@ -46,5 +50,49 @@ impl Refusal {
             Refusal::TooLong => 25,
             Refusal::UnknownGauge => 26,
         }
+    }
+}
+
+impl From<VertexRefusal> for Refusal {
+    ghost from_gives = { λ why r. r ≡ vertex_refused why };
+
+    fn from(why: VertexRefusal) -> Refusal {
+        Refusal::Vertex(why)
+    }
+}
+
+impl From<TriangleRefusal> for Refusal {
+    ghost from_gives = { λ why r. r ≡ triangle_refused why };
+
+    fn from(why: TriangleRefusal) -> Refusal {
+        Refusal::Triangle(why)
+    }
+}
+
+impl From<OpenRefusal> for Refusal {
+    ghost from_gives = { λ why r. r ≡ not_opened why };
+
+    fn from(why: OpenRefusal) -> Refusal {
+        Refusal::Open(why)
+    }
+}
+
+impl From<call::Refusal> for Refusal {
+    ghost from_gives = { λ why r. r ≡ call_refused why };
+
+    fn from(why: call::Refusal) -> Refusal {
+        Refusal::Call(why)
+    }
+}
+
+impl From<CollapseRefusal> for Refusal {
+    ghost from_gives = { λ why r. r ≡ call_refused (refusal_of why) };
+
+    fn from(why: CollapseRefusal) -> Refusal {
+        Refusal::Call(match why {
+            CollapseRefusal::NoSide => call::Refusal::NoSide,
+            CollapseRefusal::NotClosed => call::Refusal::NotClosed,
+            CollapseRefusal::Folds => call::Refusal::Folds,
+        })
     }
 }

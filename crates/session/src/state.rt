@@ -1,28 +1,25 @@
 //! What a session holds, and what each command does to it.
-ghost use Rattle.std.specs.Prelude.{◌≡◌, IfOk};
-ghost use Rattle.session.specs.Held.{held, corners_of, empty as nothing_held};
+ghost use Rattle.std.specs.Prelude.{◌≡◌, ◌++◌, IfOk, OnOk};
+ghost use Rattle.session.specs.Held.{held, empty as nothing_held};
+ghost use Rattle.session.specs.Lines.{texts};
 ghost use Rattle.session.specs.Replies.{Replied};
+ghost use Rattle.session.specs.Session.{held_lines};
 
 use crate::command::Command;
 use crate::draft::Draft;
+use crate::hull::Hull;
+use crate::lines;
 use crate::refusal::Refusal;
 use crate::reply::Reply;
 use gathering::gathering::Gathering;
 use judging::verdict::Counts;
 use std::alloc::{AllocError, Global};
 
-/// A surface that was opened, and its counts.
-#[derive(Drop)]
-pub struct Opened {
-    pub gathering: Gathering,
-    pub counts: Counts,
-}
-
 /// A surface that is being gathered, or one that was opened.
 #[derive(Drop)]
 pub enum State {
     Gathering(Draft),
-    Opened(Opened),
+    Opened(Hull),
 }
 
 /// The counts before a surface is opened.
@@ -32,9 +29,6 @@ const NO_COUNTS: Counts = Counts {
     euler: 0,
     pieces: 0,
 };
-
-/// The answer to a command of the other state.
-const OTHER_STATE: Reply<'static> = Reply::Refused(Refusal::OtherState);
 
 impl State {
     /// A gathering with no name and nothing in it.
@@ -48,13 +42,13 @@ impl State {
         }))
     }
 
-    /// The corners of the gathered or live triangles, three each.
-    pub fn corners(&self) -> &[u16]
-        ensures value { result.now ≡ corners_of (held self.now) }
+    /// Writes a line for each live triangle of the opened surface.
+    pub fn write_triangles(&self, heap: Global, out: &mut Vec<u8>) -> Result<(), AllocError>
+        ensures written { OnOk result (out.new.items ≡ out.old.items ++ texts (held_lines (held self.now))) }
     {
         match self {
-            State::Gathering(draft) => draft.gathering.corners(),
-            State::Opened(hull) => hull.gathering.corners(),
+            State::Gathering(_) => Ok(()),
+            State::Opened(hull) => lines::write_triangles(heap, out, hull.edges()),
         }
     }
 
@@ -63,33 +57,30 @@ impl State {
         self,
         heap: Global,
         command: Command<'a>,
-    ) -> Result<(State, Reply<'a>), AllocError>
+    ) -> Result<(State, Result<Reply<'a>, Refusal>), AllocError>
         ensures replied { IfOk result (λ p. Replied (held self) command.entry p.1 (held p.0)) }
     {
-        match (self, command) {
-            (State::Gathering(draft), Command::Name(name)) => Ok(draft.name(name)),
-            (State::Gathering(draft), Command::Vertex(x, y, z)) => Ok(draft.vertex(x, y, z)),
-            (State::Gathering(draft), Command::Triangle(a, b, c)) => Ok(draft.triangle(a, b, c)),
-            (State::Gathering(draft), Command::Open(gauge)) => draft.open(heap, gauge),
-            (State::Gathering(draft), Command::Write) => Ok((State::Gathering(draft), OTHER_STATE)),
-            (State::Gathering(draft), Command::End) => {
-                Ok((State::Gathering(draft), Reply::Ended(NO_COUNTS)))
+        match self {
+            State::Gathering(mut draft) => {
+                let answer = match command {
+                    Command::Name(name) => draft.name(name),
+                    Command::Vertex(x, y, z) => draft.vertex(x, y, z),
+                    Command::Triangle(a, b, c) => draft.triangle(a, b, c),
+                    Command::Open(gauge) => return draft.open(heap, gauge),
+                    Command::End => Ok(Reply::Ended(NO_COUNTS)),
+                    _ => Err(Refusal::OtherState),
+                };
+                Ok((State::Gathering(draft), answer))
             }
-            (State::Opened(hull), Command::Write) => Ok((State::Opened(hull), Reply::Triangles)),
-            (State::Opened(hull), Command::End) => {
-                let counts = hull.counts;
-                Ok((State::Opened(hull), Reply::Ended(counts)))
+            State::Opened(mut hull) => {
+                let answer = match command {
+                    Command::Call(call) => hull.call(call),
+                    Command::Write => Ok(Reply::Triangles),
+                    Command::End => Ok(Reply::Ended(hull.counts())),
+                    _ => Err(Refusal::OtherState), // Gathering is over.
+                };
+                Ok((State::Opened(hull), answer))
             }
-            (State::Opened(hull), Command::Name(_)) => Ok((State::Opened(hull), OTHER_STATE)),
-            (State::Opened(hull), Command::Vertex(_, _, _)) => Ok((
-                State::Opened(hull),
-                OTHER_STATE,
-            )),
-            (State::Opened(hull), Command::Triangle(_, _, _)) => Ok((
-                State::Opened(hull),
-                OTHER_STATE,
-            )),
-            (State::Opened(hull), Command::Open(_)) => Ok((State::Opened(hull), OTHER_STATE)),
         }
     }
 }

@@ -1,9 +1,8 @@
 //! A gauge by volume: a collapse costs the volume that it sweeps, over the number of triangles that it moves.
 #![tactic(auto)]
 
-ghost use Rattle.std.specs.Prelude.{◌≡◌, ◌≤◌, false, [], replicate, Decides, MatchResult};
+ghost use Rattle.std.specs.Prelude.{◌≡◌, ◌≤◌, false, [], replicate, Decides};
 ghost use Rattle.std.proofs.lemmas.List.{length-replicate};
-ghost use Rattle.gauge.specs.Accounts.{TwoOf, NotTwoOf};
 ghost use Rattle.sweep.specs.Entries.{entries};
 ghost use Rattle.sweep.specs.Exact.{ExactFraction};
 ghost use Rattle.sweep.specs.Prices.{price as price_of};
@@ -12,7 +11,7 @@ ghost use Rattle.std.proofs.Common.{rules};
 use crate::walk::swept;
 use fraction::Fraction;
 use gauge::telling::TellingGauge;
-use gauge::{Gauge, NoPair, TooManyVertices};
+use gauge::{Gauge, NoPair, TooManyVertices, check_pair};
 use mesh::mesh::Mesh;
 
 pub mod volume;
@@ -34,25 +33,12 @@ impl Sweep {
     {
         Sweep { count: 0 }
     }
-
-    /// Refuses what are not two of the opened vertices.
-    fn check_pair(&self, u: u16, w: u16) -> Result<(), NoPair>
-        ensures pair { MatchResult result (λ _. TwoOf self.now.count u w) (λ _. NotTwoOf self.now.count u w) }
-    {
-        if u != w && usize::from(u) < self.count && usize::from(w) < self.count {
-            Ok(())
-        } else {
-            Err(NoPair)
-        }
-    }
 }
 
 /// On a mesh, wherever it stands on its log, the cost of a side is the exact fraction.
-pub fn exact_fraction_law() -> u8
+pub fn exact_fraction_law()
     ensures stands { ExactFraction }
-{
-    0
-}
+{}
 
 /// Whether a surface with so many vertices can be opened.
 fn takes(vertices: usize) -> bool
@@ -108,9 +94,7 @@ impl Gauge for Sweep {
     }
 
     fn cost(&self, mesh: &Mesh, u: u16, w: u16) -> Option<Fraction> {
-        let Ok(()) = self.check_pair(u, w) else {
-            return None;
-        };
+        check_pair(self.count, u, w).ok()?;
         let edges = mesh.edges();
         let e = edges.half_edge(u, w)?;
         let (volume, number) = swept(edges, mesh.positions(), e);
@@ -118,11 +102,11 @@ impl Gauge for Sweep {
     }
 
     fn merge(&mut self, u: u16, w: u16) -> Result<(), NoPair> {
-        self.check_pair(u, w)
+        check_pair(self.count, u, w)
     }
 
     fn part(&mut self, u: u16, w: u16) -> Result<(), NoPair> {
-        self.check_pair(u, w)
+        check_pair(self.count, u, w)
     }
 
     fn figures(cost: &Fraction) -> (u64, u64) {

@@ -54,11 +54,11 @@ const CALLS: [Call; 12] = [
 /// The octahedron.
 fn octahedron(rt: &HostRuntime) -> anyhow::Result<Gathering> {
     let mut gathering = Gathering::new(rt.alloc())?;
-    for v in &VERTICES {
-        let _ = gathering.vertex(v[0], v[1], v[2]);
+    for [x, y, z] in &VERTICES {
+        let _ = gathering.vertex(*x, *y, *z);
     }
-    for t in &TRIANGLES {
-        let _ = gathering.triangle(t[0], t[1], t[2]);
+    for [a, b, c] in &TRIANGLES {
+        let _ = gathering.triangle(*a, *b, *c);
     }
     Ok(gathering)
 }
@@ -240,10 +240,7 @@ fn try_drawing<G: TellingGauge>(rt: &HostRuntime, opened: &Opened<G>) -> anyhow:
 /// Opens the octahedron on the gauge, and makes calls on it one at a time.
 fn try_calls<G: TellingGauge + Drop>(rt: &HostRuntime, gauge: G) -> anyhow::Result<()> {
     let gathering = octahedron(rt)?;
-    let mut opened = match open(rt.alloc(), gathering, gauge) {
-        Ok(opened) => opened,
-        Err(_) => return Err(anyhow!("not opened")),
-    };
+    let mut opened = open(rt.alloc(), gathering, gauge).map_err(|_| anyhow!("not opened"))?;
     show_counts(rt, opened.counts())?;
     try_collapses(rt, &mut opened)?;
     try_moves(rt, &mut opened)?;
@@ -252,11 +249,10 @@ fn try_calls<G: TellingGauge + Drop>(rt: &HostRuntime, gauge: G) -> anyhow::Resu
 
 /// Opens the octahedron on the gauge and makes a list of calls on it, all at once.
 fn try_list<G: TellingGauge + Drop>(rt: &HostRuntime, gauge: G) -> anyhow::Result<()> {
-    let thinned = match thin(rt.alloc(), octahedron(rt)?, gauge, &CALLS) {
-        Ok(thinned) => thinned,
-        Err(_) => return Err(anyhow!("not opened")),
-    };
-    for answer in thinned.answers.as_slice() {
+    let thinned = thin(rt.alloc(), octahedron(rt)?, gauge, &CALLS).map_err(|_| anyhow!(
+        "not opened"
+    ))?;
+    for answer in &thinned.answers {
         show_answer::<G>(rt, answer)?;
     }
     show_counts(rt, thinned.opened.counts())?;
@@ -266,13 +262,15 @@ fn try_list<G: TellingGauge + Drop>(rt: &HostRuntime, gauge: G) -> anyhow::Resul
 /// Opens the octahedron on planes with a table for five vertices: it is refused and comes back as it was.
 fn try_small_table(rt: &HostRuntime) -> anyhow::Result<()> {
     let gauge = Planes::new(rt.alloc(), 5)?;
-    let Unopened {
-        gathering,
-        gauge,
-        why,
-    } = match open(rt.alloc(), octahedron(rt)?, gauge) {
-        Ok(_) => return Err(anyhow!("opened")),
-        Err(unopened) => unopened,
+    let Err(
+        Unopened {
+            gathering,
+            gauge,
+            why,
+        },
+    ) = open(rt.alloc(), octahedron(rt)?, gauge)
+    else {
+        return Err(anyhow!("opened"));
     };
     let Why::Refused(refusal) = why else {
         return Err(anyhow!("no memory"));

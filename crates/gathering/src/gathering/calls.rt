@@ -18,8 +18,8 @@ impl Gathering {
     pub fn new(heap: Global) -> Result<Gathering, AllocError>
         ensures empty { IfOk result (λ g. (positions_of g ≡ []) × (corners_of g ≡ [])) }
     {
-        let positions = Vec::with_capacity(heap, 1024)?;
-        let corners = Vec::with_capacity(heap, 6144)?;
+        let positions = Vec::with_capacity(heap, Self::MOST_VERTICES)?;
+        let corners = Vec::with_capacity(heap, 3 * Self::MOST_TRIANGLES)?;
         Ok(Gathering { positions, corners })
     }
 
@@ -27,7 +27,7 @@ impl Gathering {
     pub fn vertex(&mut self, x: u16, y: u16, z: u16) -> Result<(), VertexRefusal>
         ensures outcome { AddedVertex self.old x y z result self.new }
     {
-        if self.positions.len() >= 1024 {
+        if self.positions.len() >= Self::MOST_VERTICES {
             return Err(VertexRefusal::TooManyVertices);
         }
         if x > 255 || y > 255 || z > 255 {
@@ -45,7 +45,7 @@ impl Gathering {
     pub fn triangle(&mut self, a: u16, b: u16, c: u16) -> Result<(), TriangleRefusal>
         ensures outcome { AddedTriangle self.old a b c result self.new }
     {
-        if self.corners.len() >= 6144 {
+        if self.corners.len() >= 3 * Self::MOST_TRIANGLES {
             return Err(TriangleRefusal::TooManyTriangles);
         }
         let n = self.positions.len();

@@ -1,5 +1,5 @@
-//! The half-edges by the vertex at which they begin.
-ghost use Rattle.std.specs.Prelude.{◌≡◌, ℕ, ◌+◌, ◌<◌, ◌≤◌, length, None, slice_index_or};
+//! Linking the half-edges that begin at one vertex.
+ghost use Rattle.std.specs.Prelude.{◌≡◌, ℕ, ◌<◌, ◌≤◌, length, None, slice_index_or};
 ghost use Rattle.surface.specs.Surface.{next};
 ghost use Rattle.gathering.specs.Limits.{Numbered};
 ghost use Rattle.judging.specs.Chains.{Chained};
@@ -20,8 +20,8 @@ pub(super) fn chain(corners: &[u16], last: &mut [Option<u16>], link: &mut [Optio
     requires empty { (v : ℕ) → v < length last.old → slice_index_or last.old v None ≡ None }
     ensures chained { Chained corners.now (length last.old) last.new link.new }
 {
-    for h in 0..corners.len() {
-        let v = corners[h] as usize;
+    for (h, corner) in corners.iter().enumerate() {
+        let v = *corner as usize;
         link[h] = last[v];
         last[v] = Some(h as u16);
     }

@@ -14,11 +14,13 @@ pub(super) fn first_flat(positions: &[Position], corners: &[u16]) -> Option<u16>
     requires threes { length corners.now % 3 ≡ 0 }
     ensures lowest { MatchOption result (NoneFlat (surface_of positions.now corners.now) (point_of positions.now)) (λ t. Lowest (Flat (surface_of positions.now corners.now) (point_of positions.now)) t) }
 {
-    for t in 0..corners.len() / 3 {
-        let a = positions[corners[3 * t] as usize];
-        let b = positions[corners[3 * t + 1] as usize];
-        let c = positions[corners[3 * t + 2] as usize];
-        if is_flat(a, b, c) {
+    let (triangles, _) = corners.as_chunks::<3>();
+    for (t, [a, b, c]) in triangles.iter().enumerate() {
+        if is_flat(
+            positions[*a as usize],
+            positions[*b as usize],
+            positions[*c as usize],
+        ) {
             return Some(t as u16);
         }
     }

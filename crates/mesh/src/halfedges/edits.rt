@@ -8,33 +8,19 @@ ghost use Rattle.mesh.specs.Moves.{record_of};
 ghost use Rattle.mesh.specs.Walks.{Walkable, Moved};
 
 use super::HalfEdges;
+use super::turns::{following, preceding};
 use crate::record::Record;
-
-/// The next half-edge of the same triangle.
-fn following(h: u16) -> u16
-    requires low { h < 6144 }
-    ensures value { result ≡ next h }
-{
-    if h % 3 == 2 { h - 2 } else { h + 1 }
-}
-
-/// The half-edge of the same triangle before `h`.
-fn preceding(h: u16) -> u16
-    requires low { h < 6144 }
-    ensures value { result ≡ prev h }
-{
-    if h % 3 == 0 { h + 2 } else { h - 1 }
-}
 
 /// Writes `v` at the half-edges round their vertex from `first` to `last`.
 fn walk(corners: &mut [u16], twin: &[u16], first: u16, last: u16, v: u16)
     requires ready { Walkable corners.old twin.now first last v }
     ensures moved { Moved corners.old twin.now first last v corners.new }
 {
+    // Kept as a loop: it writes corners on its way, between two half-edges, and has the lists alone.
     let mut h = first;
     while h != last {
         corners[h as usize] = v;
-        h = twin[preceding(h) as usize];
+        h = twin[preceding(h)];
     }
     corners[last as usize] = v;
 }
@@ -45,8 +31,8 @@ fn turn(corners: &mut [u16], twin: &[u16], e: u16, f: u16, v: u16)
     requires ready { Walkable corners.old twin.now (slice_index twin.now (prev e)) (next (slice_index twin.now (next f))) v }
     ensures moved { Moved corners.old twin.now (slice_index twin.now (prev e)) (next (slice_index twin.now (next f))) v corners.new }
 {
-    let first = twin[preceding(e) as usize];
-    let last = following(twin[following(f) as usize]);
+    let first = twin[preceding(e)];
+    let last = following(twin[following(f)]) as u16;
     walk(corners, twin, first, last, v);
 }
 
@@ -55,10 +41,10 @@ fn cross(twin: &mut [u16], e: u16, f: u16)
     requires beside { Beside twin.old e f }
     ensures value { twin.new ≡ crossed twin.old e f }
 {
-    let a = twin[following(e) as usize];
-    let b = twin[preceding(e) as usize];
-    let c = twin[following(f) as usize];
-    let d = twin[preceding(f) as usize];
+    let a = twin[following(e)];
+    let b = twin[preceding(e)];
+    let c = twin[following(f)];
+    let d = twin[preceding(f)];
     twin[a as usize] = b;
     twin[b as usize] = a;
     twin[c as usize] = d;
@@ -66,18 +52,19 @@ fn cross(twin: &mut [u16], e: u16, f: u16)
 }
 
 /// Makes the half-edges behind each of the triangles of `e` and `f` twins of those in the triangles again.
+// Kept beside `cross`: one function for both would be given the four twins, which are all that the two differ in.
 fn uncross(twin: &mut [u16], e: u16, f: u16)
     requires beside { Beside twin.old e f }
     ensures value { twin.new ≡ uncrossed twin.old e f }
 {
-    let a = twin[following(e) as usize];
-    let b = twin[preceding(e) as usize];
-    let c = twin[following(f) as usize];
-    let d = twin[preceding(f) as usize];
-    twin[a as usize] = following(e);
-    twin[b as usize] = preceding(e);
-    twin[c as usize] = following(f);
-    twin[d as usize] = preceding(f);
+    let a = twin[following(e)];
+    let b = twin[preceding(e)];
+    let c = twin[following(f)];
+    let d = twin[preceding(f)];
+    twin[a as usize] = following(e) as u16;
+    twin[b as usize] = preceding(e) as u16;
+    twin[c as usize] = following(f) as u16;
+    twin[d as usize] = preceding(f) as u16;
 }
 
 /// Makes the triangles of `e` and `f` live or dead.
@@ -86,6 +73,7 @@ fn mark(triangles: &mut [bool], e: u16, f: u16, live: bool)
     requires second { f / 3 < length triangles.old }
     ensures value { triangles.new ≡ slice_set (slice_set triangles.old (e / 3) live) (f / 3) live }
 {
+    // Kept as two writes: a loop over two places is longer.
     triangles[(e / 3) as usize] = live;
     triangles[(f / 3) as usize] = live;
 }
@@ -98,9 +86,9 @@ fn mend(out: &mut [u16], corners: &[u16], twin: &[u16], e: u16, f: u16)
     ensures value { out.new ≡ mended out.old corners.now twin.now e f }
 {
     out[corners[e as usize] as usize] = e;
-    out[corners[f as usize] as usize] = twin[preceding(f) as usize];
-    out[corners[preceding(e) as usize] as usize] = twin[following(e) as usize];
-    out[corners[preceding(f) as usize] as usize] = twin[following(f) as usize];
+    out[corners[f as usize] as usize] = twin[preceding(f)];
+    out[corners[preceding(e)] as usize] = twin[following(e)];
+    out[corners[preceding(f)] as usize] = twin[following(f)];
 }
 
 impl HalfEdges {
@@ -111,7 +99,7 @@ impl HalfEdges {
     {
         Record {
             u: self.corners[e as usize],
-            w: self.corners[following(e) as usize],
+            w: self.corners[following(e)],
         }
     }
 

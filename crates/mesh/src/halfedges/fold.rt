@@ -19,16 +19,8 @@ impl HalfEdges {
         ensures upright { Exactly result (Upright (held self.now) (point_of positions.now) ((held self.now).corner e) ((held self.now).corner (next e))) }
     {
         let w = self.end(e);
-        let mut h = e;
-        loop {
-            if !self.stands(positions, h, w) {
-                return false;
-            }
-            h = self.around(h);
-            if h == e {
-                return true;
-            }
-        }
+        self.ring(self.start(e))
+            .all(|h| self.stands(positions, h, w))
     }
 
     /// Whether the triangle of `h` holds `w`, or is not folded where its corner at `h` moves to `w`.

@@ -5,7 +5,7 @@ ghost use Rattle.surface.specs.Closed.{Closed};
 ghost use Rattle.surface.specs.Collapse.{collapse};
 ghost use Rattle.surface.specs.Permitted.{HasThree};
 ghost use Rattle.mesh.specs.Model.{held};
-ghost use Rattle.mesh.specs.Reads.{Exactly, OnlyCommon};
+ghost use Rattle.mesh.specs.Reads.{Exactly, OnlyCommon, Clear};
 
 use super::HalfEdges;
 
@@ -26,20 +26,15 @@ impl HalfEdges {
     fn only_common(&self, u: u16, w: u16, a: u16, b: u16) -> bool
         ensures only { Exactly result (OnlyCommon (held self.now) u w a b) }
     {
-        let Some(first) = self.outgoing(u) else {
-            return true;
-        };
-        let mut h = first;
-        loop {
-            let c = self.end(h);
-            if c != a && c != b && self.half_edge(w, c).is_some() {
-                return false;
-            }
-            h = self.around(h);
-            if h == first {
-                return true;
-            }
-        }
+        self.ring(u).all(|h| self.clear(h, w, a, b))
+    }
+
+    /// Whether `h` leads to no neighbour of `w` but `a` and `b`.
+    fn clear(&self, h: u16, w: u16, a: u16, b: u16) -> bool
+        ensures clear { Exactly result (Clear (held self.now) w a b h) }
+    {
+        let c = self.end(h);
+        c == a || c == b || self.half_edge(w, c).is_none()
     }
 
     /// Whether `v` has three neighbours.

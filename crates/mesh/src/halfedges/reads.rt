@@ -7,6 +7,7 @@ ghost use Rattle.mesh.specs.Model.{held};
 ghost use Rattle.mesh.specs.Reads.{Outgoing, Leads};
 
 use super::HalfEdges;
+use super::turns::{following, preceding};
 
 impl HalfEdges {
     /// How many vertices there are, live and dead.
@@ -24,14 +25,16 @@ impl HalfEdges {
     }
 
     /// Whether `h` is a half-edge of a live triangle.
+    #[tactic(auto, unfolding(surface::specs::Read::read))]
     pub fn is_live(&self, h: u16) -> bool
         ensures value { result ≡ (held self.now).alive (h / 3) }
     {
         let t = usize::from(h / 3);
-        t < self.triangles.len() && self.triangles[t]
+        self.triangles.get(t).copied().unwrap_or(false)
     }
 
     /// The vertex at which `h` begins.
+    #[tactic(auto, unfolding(surface::specs::Read::read))]
     pub fn start(&self, h: u16) -> u16
         ensures value { result ≡ (held self.now).corner h }
     {
@@ -39,6 +42,7 @@ impl HalfEdges {
     }
 
     /// The vertex at which `h` ends.
+    #[tactic(auto, unfolding(surface::specs::Read::read))]
     pub fn end(&self, h: u16) -> u16
         ensures value { result ≡ (held self.now).corner (next h) }
     {
@@ -46,6 +50,7 @@ impl HalfEdges {
     }
 
     /// The third corner of the triangle of `h`.
+    #[tactic(auto, unfolding(surface::specs::Read::read))]
     pub fn third(&self, h: u16) -> u16
         ensures value { result ≡ (held self.now).corner (prev h) }
     {
@@ -64,30 +69,15 @@ impl HalfEdges {
         ensures begins { Outgoing (held self.now) v result }
     {
         let i = usize::from(v);
-        if i < self.vertices.len() && self.vertices[i] {
-            Some(self.out[i])
-        } else {
-            None
-        }
+        let live = self.vertices.get(i).copied().unwrap_or(false);
+        live.then_some(entry(&self.out, i))
     }
 
     /// The half-edge from the vertex `u` to the vertex `w`, if there is one.
     pub fn half_edge(&self, u: u16, w: u16) -> Option<u16>
         ensures leads { Leads (held self.now) u w result }
     {
-        let Some(first) = self.outgoing(u) else {
-            return None;
-        };
-        let mut h = first;
-        loop {
-            if self.end(h) == w {
-                return Some(h);
-            }
-            h = self.around(h);
-            if h == first {
-                return None;
-            }
-        }
+        self.ring(u).find(|h| self.end(*h) == w)
     }
 
     /// The half-edge that follows `h` round the vertex at which `h` begins.
@@ -98,25 +88,9 @@ impl HalfEdges {
     }
 }
 
-/// The next half-edge of the same triangle.
-fn following(h: u16) -> usize
-    ensures value { result ≡ next h }
-{
-    let h = usize::from(h);
-    if h % 3 == 2 { h - 2 } else { h + 1 }
-}
-
-/// The half-edge before, of the same triangle.
-fn preceding(h: u16) -> usize
-    ensures value { result ≡ prev h }
-{
-    let h = usize::from(h);
-    if h % 3 == 0 { h + 2 } else { h - 1 }
-}
-
 /// The entry at place `i`, 0 past the end.
 fn entry(list: &[u16], i: usize) -> u16
     ensures value { result ≡ slice_index list.now i }
 {
-    if i < list.len() { list[i] } else { 0 }
+    list.get(i).copied().unwrap_or(0)
 }

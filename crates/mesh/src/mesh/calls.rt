@@ -19,13 +19,8 @@ impl Mesh {
     pub fn redo(&mut self) -> Option<Record>
         ensures outcome { Redo self.old result self.new }
     {
-        if self.position >= self.log.len() {
-            return None;
-        }
-        let r = self.log[self.position];
-        let Some(e) = self.edges.half_edge(r.u, r.w) else {
-            return None;
-        };
+        let r = *self.log.get(self.position)?;
+        let e = self.edges.half_edge(r.u, r.w)?;
         self.advance(e);
         Some(r)
     }

@@ -44,12 +44,10 @@ impl Mesh {
     pub fn split(&mut self) -> Option<Record>
         ensures outcome { Split self.old result self.new }
     {
-        if self.position == 0 {
-            return None;
-        }
-        let r = self.log[self.position - 1];
+        let before = self.position.checked_sub(1)?;
+        let r = self.log[before];
         self.edges.part(r.u);
-        self.position -= 1;
+        self.position = before;
         Some(r)
     }
 }

@@ -1,15 +1,14 @@
 //! Opening a mesh from a gathered surface.
 ghost use Rattle.std.specs.Prelude.{◌≡◌, ◌≤◌, [], IfOk, vec_capacity};
 ghost use Rattle.mesh.specs.Opened.{Prepares, Opens};
-ghost use Rattle.mesh.specs.declared.mesh.opening.Unopened.TheVariants.{NoMemory};
 
 use super::Mesh;
 use crate::halfedges::HalfEdges;
 use crate::record::Record;
 use gathering::gathering::Gathering;
 use judging::survey::survey;
-use judging::tables::{Survey, Tables};
-use judging::verdict::{Counts, Flaw};
+use judging::tables::Tables;
+use judging::verdict::{Counts, Unjudged};
 use std::alloc::{AllocError, Global};
 
 /// A mesh as it was opened, and the counts of its surface.
@@ -19,18 +18,11 @@ pub struct Opening {
     pub counts: Counts,
 }
 
-/// Why a gathering is not opened.
-#[derive(Clone, Copy)]
-pub enum Unopened {
-    Flawed(Flaw),
-    NoMemory,
-}
-
 /// A gathering that is not opened, as it came.
 #[derive(Drop)]
 pub struct Refused {
     pub gathering: Gathering,
-    pub why: Unopened,
+    pub why: Unjudged,
 }
 
 /// What a mesh takes memory for, besides the lists of the gathering.
@@ -38,14 +30,6 @@ struct Prepared {
     counts: Counts,
     edges: HalfEdges,
     log: Vec<Record>,
-}
-
-impl From<AllocError> for Unopened {
-    ghost from_gives = { λ _ r. r ≡ NoMemory };
-
-    fn from(_e: AllocError) -> Unopened {
-        Unopened::NoMemory
-    }
 }
 
 /// A log with nothing in it, and room for `n` records.
@@ -57,13 +41,10 @@ fn empty_log(heap: Global, n: usize) -> Result<Vec<Record>, AllocError>
 }
 
 /// Judges the gathering, and takes all memory that its mesh will need.
-fn prepare(heap: Global, gathering: &Gathering) -> Result<Prepared, Unopened>
+fn prepare(heap: Global, gathering: &Gathering) -> Result<Prepared, Unjudged>
     ensures outcome { Prepares gathering.now result }
 {
-    let Tables { counts, twin, out } = match survey(heap, gathering)? {
-        Survey::Closed(tables) => tables,
-        Survey::Flawed(flaw) => return Err(Unopened::Flawed(flaw)),
-    };
+    let Tables { counts, twin, out } = survey(heap, gathering)?;
     let n = gathering.positions().len();
     let edges = HalfEdges::all_live(heap, gathering.corners(), n, twin, out)?;
     let log = empty_log(heap, n)?;

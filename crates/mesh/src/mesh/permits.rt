@@ -9,11 +9,11 @@ use super::Mesh;
 #[derive(Clone, Copy)]
 pub enum CollapseRefusal {
     /// They are not joined by a side.
-    NoSide,
+    NoSide = 13,
     /// The outcome is no closed surface.
-    NotClosed,
+    NotClosed = 14,
     /// A triangle that is moved would be folded over.
-    Folds,
+    Folds = 15,
 }
 
 impl CollapseRefusal {
@@ -21,11 +21,7 @@ impl CollapseRefusal {
     pub fn number(self) -> u8
         ensures value { result ≡ refusal_number self }
     {
-        match self {
-            CollapseRefusal::NoSide => 13,
-            CollapseRefusal::NotClosed => 14,
-            CollapseRefusal::Folds => 15,
-        }
+        self as u8
     }
 }
 
@@ -34,9 +30,7 @@ impl Mesh {
     pub fn permitted(&self, u: u16, w: u16) -> Result<u16, CollapseRefusal>
         ensures permit { Permit (surface self.now) (points self.now) u w result }
     {
-        let Some(e) = self.edges.half_edge(u, w) else {
-            return Err(CollapseRefusal::NoSide);
-        };
+        let e = self.edges.half_edge(u, w).ok_or(CollapseRefusal::NoSide)?;
         if !self.edges.link_holds(e) {
             return Err(CollapseRefusal::NotClosed);
         }

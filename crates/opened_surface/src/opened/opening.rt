@@ -1,18 +1,20 @@
 //! Opening a gathered surface with a gauge.
 ghost use Rattle.std.specs.Prelude.{◌≡◌};
-ghost use Rattle.opened_surface.specs.Begun.{Begun, LargeWhy, mesh_why};
+ghost use Rattle.opened_surface.specs.Begun.{Begun, LargeWhy, Prepares};
 ghost use Rattle.opened_surface.specs.Openings.{open_number, open_place, Opens};
 
 use super::Opened;
 use crate::mending::fill;
 use crate::stale::Stale;
+use crate::thinning::Thinning;
 use gathering::gathering::Gathering;
 use gauge::telling::TellingGauge;
 use judging::judge::judge;
-use judging::verdict::{Counts, Flaw, Verdict};
+use judging::verdict::{Flaw, Unjudged};
 use mesh::mesh::{Mesh, opening as meshes};
 use queue::Queue;
 use std::alloc::Global;
+use std::marker::PhantomData;
 
 /// Why a gathered surface is refused with a gauge.
 #[derive(Clone, Copy)]
@@ -60,13 +62,16 @@ pub struct Unopened<G> {
     pub why: Why,
 }
 
-/// Why a mesh was not opened, as a reason of this opening.
-fn why_of(why: meshes::Unopened) -> Why
-    ensures value { result ≡ mesh_why why }
-{
-    match why {
-        meshes::Unopened::Flawed(flaw) => Why::Refused(OpenRefusal::Flawed(flaw)),
-        meshes::Unopened::NoMemory => Why::NoMemory,
+impl From<Unjudged> for Why {
+    ghost use Rattle.opened_surface.specs.Whys.{why_of};
+
+    ghost from_gives = { λ u why. why ≡ why_of u };
+
+    fn from(why: Unjudged) -> Why {
+        match why {
+            Unjudged::Flawed(flaw) => Why::Refused(OpenRefusal::Flawed(flaw)),
+            Unjudged::NoMemory => Why::NoMemory,
+        }
     }
 }
 
@@ -75,10 +80,25 @@ fn why_large(heap: Global, gathering: &Gathering) -> Why
     ensures reason { LargeWhy gathering.now result }
 {
     match judge(heap, gathering) {
-        Ok(Verdict::Refused(flaw)) => Why::Refused(OpenRefusal::Flawed(flaw)),
-        Ok(Verdict::Accepted(_)) => Why::Refused(OpenRefusal::TooManyVertices),
-        Err(_) => Why::NoMemory,
+        Ok(_) => Why::Refused(OpenRefusal::TooManyVertices),
+        Err(why) => why.into(),
     }
+}
+
+/// A queue and stale vertices for a gathering that the gauge takes: no half-edge has a key, and no vertex is stale.
+fn prepare<G: TellingGauge>(
+    heap: Global,
+    gathering: &Gathering,
+    gauge: &G,
+) -> Result<(Queue<G::Cost>, Stale), Why>
+    ensures prepared { Prepares G.Gauge G.Cost.Ordered gathering.now gauge.now result }
+{
+    if gauge.most_vertices() < gathering.positions().len() {
+        return Err(why_large(heap, gathering));
+    }
+    let queue = Queue::new(heap, gathering.corners().len()).map_err(|_| Why::NoMemory)?;
+    let stale = Stale::new(heap, gathering.positions().len()).map_err(|_| Why::NoMemory)?;
+    Ok((queue, stale))
 }
 
 /// Opens the account of a mesh and gives each of its half-edges its key.
@@ -87,18 +107,16 @@ fn begin<G: TellingGauge>(
     mut gauge: G,
     mut queue: Queue<G::Cost>,
     stale: Stale,
-    counts: Counts,
-) -> Opened<G>
-    ensures begun { Begun G.Gauge G.Cost.Ordered mesh gauge queue stale counts result }
+) -> Thinning<G>
+    ensures begun { Begun G.Gauge G.Cost.Ordered mesh gauge queue stale result }
 {
     let _ = gauge.open(&mesh);
     fill(&mesh, &gauge, &mut queue);
-    Opened {
+    Thinning {
         mesh,
         gauge,
         queue,
         stale,
-        counts,
     }
 }
 
@@ -110,34 +128,27 @@ pub fn open<G: TellingGauge>(
 ) -> Result<Opened<G>, Unopened<G>>
     ensures outcome { Opens G.Gauge G.Cost.Ordered gathering gauge result }
 {
-    if gauge.most_vertices() < gathering.positions().len() {
-        let why = why_large(heap, &gathering);
-        return Err(Unopened {
-            gathering,
-            gauge,
-            why,
-        });
-    }
-    let Ok(queue) = Queue::new(heap, gathering.corners().len()) else {
-        return Err(Unopened {
-            gathering,
-            gauge,
-            why: Why::NoMemory,
-        });
-    };
-    let Ok(stale) = Stale::new(heap, gathering.positions().len()) else {
-        return Err(Unopened {
-            gathering,
-            gauge,
-            why: Why::NoMemory,
-        });
+    // Kept: a `?` would drop gathering and gauge, which are handed back.
+    let (queue, stale) = match prepare(heap, &gathering, &gauge) {
+        Ok(prepared) => prepared,
+        Err(why) => {
+            return Err(Unopened {
+                gathering,
+                gauge,
+                why,
+            });
+        }
     };
     match meshes::open(heap, gathering) {
-        Ok(meshes::Opening { mesh, counts }) => Ok(begin(mesh, gauge, queue, stale, counts)),
+        Ok(meshes::Opening { mesh, counts }) => Ok(Opened {
+            thinning: begin(mesh, gauge, queue, stale),
+            counts,
+            entries: PhantomData,
+        }),
         Err(meshes::Refused { gathering, why }) => Err(Unopened {
             gathering,
             gauge,
-            why: why_of(why),
+            why: why.into(),
         }),
     }
 }

@@ -3,15 +3,15 @@ ghost use Rattle.opened_surface.specs.Thinned.{Thins};
 
 use super::Opened;
 use super::opening::{Unopened, Why, open};
-use crate::calls::run_all;
 use gathering::gathering::Gathering;
+use gauge::Gauge;
 use gauge::telling::TellingGauge;
 use ledger::call::{Answer, Call};
 use std::alloc::Global;
 
 /// An opened surface after some calls, and what each of them answered.
 #[derive(Drop)]
-pub struct Thinned<G: TellingGauge> {
+pub struct Thinned<G: Gauge> {
     pub opened: Opened<G>,
     pub answers: Vec<Answer<G::Cost>>,
 }
@@ -25,6 +25,7 @@ pub fn thin<G: TellingGauge>(
 ) -> Result<Thinned<G>, Unopened<G>>
     ensures outcome { Thins G.Gauge G.Cost.Ordered gathering gauge calls.now result }
 {
+    // Kept: a `?` would drop gathering and gauge, which are handed back.
     let Ok(mut answers) = Vec::with_capacity(heap, calls.len()) else {
         return Err(Unopened {
             gathering,
@@ -33,13 +34,6 @@ pub fn thin<G: TellingGauge>(
         });
     };
     let mut opened = open(heap, gathering, gauge)?;
-    run_all(
-        &mut opened.mesh,
-        &mut opened.gauge,
-        &mut opened.queue,
-        &mut opened.stale,
-        calls,
-        &mut answers,
-    );
+    opened.thinning.run(calls, &mut answers);
     Ok(Thinned { opened, answers })
 }

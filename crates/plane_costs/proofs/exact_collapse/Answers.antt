@@ -1,3 +1,4 @@
+use Rattle.opened_surface.specs.Parts.{mesh_of}
 use Rattle.plane_costs.proofs.Exactness.{exact_collapse}
 use Rattle.plane_costs.proofs.exact_collapse.Goals as goal
 
@@ -5,6 +6,6 @@ pub returns : goal.returns
 returns c =
     record {
       called = c.collapse.ensures.called;
-      exact = λ K. exact_collapse c.args.opened.now.mesh c.look_over.ensures.bytes c.args.u c.args.w c.collapse.result (c.collapse.ensures.called K).promise.ledger;
+      exact = exact_collapse (mesh_of c.args.opened.now) c.look_over.ensures.bytes c.args.u c.args.w c.collapse.result c.collapse.ensures.called.promise.ledger;
       refused = c.collapse.ensures.refused;
     }

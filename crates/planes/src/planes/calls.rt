@@ -1,5 +1,5 @@
 //! The calls on the gauge.
-ghost use Rattle.std.specs.Prelude.{◌≡◌, ℕ, ◌+◌, ◌*◌, ◌<◌, true, [], length, IfOk, MatchBool, slice_index_or, slice_set};
+ghost use Rattle.std.specs.Prelude.{◌≡◌, ℕ, ◌+◌, ◌*◌, ◌<◌, true, [], length, IfOk, MatchResult, slice_index_or, slice_set};
 ghost use Rattle.mesh.specs.Model.{surface as surface_of, points as points_of};
 ghost use Rattle.geometry.specs.Values.{vector_of};
 ghost use Rattle.gauge.specs.Accounts.{TwoOf, NotTwoOf};
@@ -13,7 +13,7 @@ ghost use Rattle.std.proofs.Common.{rules};
 use super::Planes;
 use crate::quadric::{Quadric, quadric_of};
 use gauge::telling::TellingGauge;
-use gauge::{Gauge, NoPair, TooManyVertices};
+use gauge::{Gauge, NoPair, TooManyVertices, check_pair};
 use geometry::Position;
 use mesh::mesh::Mesh;
 use std::alloc::{AllocError, Global};
@@ -23,15 +23,16 @@ impl Planes {
     pub fn new(heap: Global, capacity: usize) -> Result<Planes, AllocError>
         ensures made { IfOk result (λ g. (capacity_of g ≡ capacity) × (account_of g ≡ [])) }
     {
-        let table = vec![in heap; Quadric::zero(); capacity]?;
-        Ok(Planes { table, entries: 0 })
+        let table = Vec::with_capacity(heap, capacity)?;
+        Ok(Planes { table, capacity })
     }
 
-    /// Whether `u` and `w` are two opened vertices.
-    fn are_two(&self, u: u16, w: u16) -> bool
-        ensures told { MatchBool result (TwoOf (length (account_of self.now)) u w) (NotTwoOf (length (account_of self.now)) u w) }
+    /// The entries of `u` and of `w`, if these are two opened vertices.
+    fn two_entries(&self, u: u16, w: u16) -> Result<(Quadric, Quadric), NoPair>
+        ensures { MatchResult result (λ r. TwoOf (length (account_of self.now)) u w × (r.0 ≡ slice_index_or (account_of self.now) u zero) × (r.1 ≡ slice_index_or (account_of self.now) w zero)) (λ _. NotTwoOf (length (account_of self.now)) u w) }
     {
-        u != w && usize::from(u) < self.entries && usize::from(w) < self.entries
+        check_pair(self.table.len(), u, w)?;
+        Ok((self.table[usize::from(u)], self.table[usize::from(w)]))
     }
 }
 
@@ -74,42 +75,32 @@ impl Gauge for Planes {
 
     fn open(&mut self, mesh: &Mesh) -> Result<(), TooManyVertices> {
         let n = mesh.positions().len();
-        if self.table.len() < n {
+        if self.capacity < n {
             return Err(TooManyVertices);
         }
+        self.table.clear();
+        self.table.resize(n, Quadric::default()).unwrap();
         gather(&mut self.table, mesh);
-        self.entries = n;
         Ok(())
     }
 
     fn cost(&self, mesh: &Mesh, u: u16, w: u16) -> Option<u64> {
-        let i = usize::from(u);
-        let j = usize::from(w);
-        if i >= self.entries || j >= self.entries {
-            return None;
-        }
+        let from = self.table.get(usize::from(u))?;
+        let to = self.table.get(usize::from(w))?;
         mesh.edges().half_edge(u, w)?;
         let p = position_of(mesh, w);
-        Some(self.table[i].at(p).wrapping_add(self.table[j].at(p)))
+        Some(from.at(p).wrapping_add(to.at(p)))
     }
 
     fn merge(&mut self, u: u16, w: u16) -> Result<(), NoPair> {
-        if !self.are_two(u, w) {
-            return Err(NoPair);
-        }
-        let added = self.table[usize::from(u)];
-        let entry = self.table[usize::from(w)];
-        self.table[usize::from(w)] = entry.plus(added);
+        let (added, entry) = self.two_entries(u, w)?;
+        self.table[usize::from(w)] = entry + added;
         Ok(())
     }
 
     fn part(&mut self, u: u16, w: u16) -> Result<(), NoPair> {
-        if !self.are_two(u, w) {
-            return Err(NoPair);
-        }
-        let taken = self.table[usize::from(u)];
-        let entry = self.table[usize::from(w)];
-        self.table[usize::from(w)] = entry.minus(taken);
+        let (taken, entry) = self.two_entries(u, w)?;
+        self.table[usize::from(w)] = entry - taken;
         Ok(())
     }
 
@@ -118,22 +109,12 @@ impl Gauge for Planes {
     }
 }
 
-/// Makes each entry the sum of the quadrics of the live triangles at its vertex.
+/// Adds to each entry the quadrics of the live triangles at its vertex.
 fn gather(table: &mut [Quadric], mesh: &Mesh)
-    ensures gathered { Gathered (surface_of mesh.now) (points_of mesh.now) 6144 table.new }
+    ensures gathered { Gathered (surface_of mesh.now) (points_of mesh.now) 0 table.old → Gathered (surface_of mesh.now) (points_of mesh.now) 6144 table.new }
 {
-    clear(table);
     for t in 0..2048 {
         add_triangle(table, mesh, t);
-    }
-}
-
-/// Makes every entry zero.
-fn clear(table: &mut [Quadric])
-    ensures cleared { (c : ℕ) → c < length table.new → slice_index_or table.new c zero ≡ zero }
-{
-    for entry in table.iter_mut() {
-        *entry = Quadric::zero();
     }
 }
 
@@ -165,8 +146,9 @@ fn add(table: &mut [Quadric], v: u16, q: Quadric)
     ensures added { table.new ≡ slice_set table.old v (plus (slice_index_or table.old v zero) q) }
 {
     let i = usize::from(v);
+    // Kept: what a slice holds after a write through its `get_mut` is not known to a proof.
     if i < table.len() {
-        table[i] = table[i].plus(q);
+        table[i] = table[i] + q;
     }
 }
 
@@ -174,13 +156,10 @@ fn add(table: &mut [Quadric], v: u16, q: Quadric)
 fn position_of(mesh: &Mesh, v: u16) -> Position
     ensures point { vector_of result ≡ points_of mesh.now v }
 {
-    let positions = mesh.positions();
-    let i = usize::from(v);
-    if i < positions.len() {
-        positions[i]
-    } else {
-        Position { x: 0, y: 0, z: 0 }
-    }
+    mesh.positions()
+        .get(usize::from(v))
+        .copied()
+        .unwrap_or(Position { x: 0, y: 0, z: 0 })
 }
 
 /// Prices rest on entries and points alone.
@@ -194,6 +173,6 @@ impl TellingGauge for Planes {
     }
 
     fn most_vertices(&self) -> usize {
-        self.table.len()
+        self.capacity
     }
 }

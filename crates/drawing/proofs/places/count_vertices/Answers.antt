@@ -1,33 +1,23 @@
-use Rattle.std.proofs.Common.{◌≡◌, vec_len, sym, ap, ◌∙◌, arith}
+use Rattle.std.proofs.Common.{◌≡◌, vec_len, refl, ◌∙◌, rules, arith}
+use borrow.Author.Tests.{tests}
+use Rattle.std.proofs.lemmas.Iterator.{YieldsList-from_range}
+use Rattle.std.proofs.lemmas.Iterator.Consumers.{count_from_yields_List, YieldsList-from_filter}
 use Rattle.mesh.specs.Model.{held}
 use Rattle.drawing.specs.Places.{place}
-use Rattle.drawing.proofs.Counts.{count_zero, count_on, count_off, count_most}
+use Rattle.drawing.proofs.Counts.{counted, count_most}
 use Rattle.drawing.proofs.places.count_vertices.Goals as goal
-use Rattle.drawing.proofs.places.count_vertices.Goals.{then-is_vertex, else-is_vertex}
 
-pub loop-v-init : goal.loop-v-init
-loop-v-init c = sym (count_zero (held c.args.edges.now).present)
+live : (c : goal.After-count) → c.count.result ≡ place (held c.args.edges.now) (vec_len c.args.edges.now.vertices)
+live c =
+    let e = c.args.edges.now in
+    count_from_yields_List c.filter.result c.count.result c.count.ensures.ran
+    (YieldsList-from_filter _ (held e).present (YieldsList-from_range 0 c.vertex_count.result c.vertex_count.result c.filter.ensures.source (omega arith)) c.filter.ensures.closure (λ x r q k. search (rules, tests)))
+    ∙ counted (held e).present (held e).present c.vertex_count.result _ c.vertex_count.ensures.value (λ k. refl)
 
-pub overflow_add-count : goal.overflow_add-count
-overflow_add-count c =
-    let m = count_most (held c.args.edges.now).present c.loop-v.v in
-    let f = c.args.edges.now.few_vertices in
-    let i = c.loop-v.invariant in
-    omega arith
-
-pub loop-v-preserved : goal.loop-v-preserved
-loop-v-preserved c =
-    let f = (held c.args.edges.now).present in
-    let v = c.loop-v.v in
-    let r = sym c.is_vertex.ensures.value in
-    let i = c.loop-v.invariant in
-    elim c.if-is_vertex.branch [
-      | then-is_vertex w ↦ let n = count_on f v (r ∙ w.if-is_vertex.true) in let j = w.count-is in omega arith
-      | else-is_vertex w ↦ let n = count_off f v (r ∙ w.if-is_vertex.false) in let j = w.count-is in omega arith
-    ]
+pub overflow_cast-result : goal.overflow_cast-result
+overflow_cast-result c =
+    let e = c.args.edges.now in
+    omega (arith, live c, count_most (held e).present (vec_len e.vertices), e.few_vertices)
 
 pub returns : goal.returns
-returns c =
-    let e = c.args.edges.now in
-    let i : c.loop-v.v ≡ vec_len e.vertices = omega arith in
-    record { value = c.loop-v.invariant ∙ ap (place (held e)) i }
+returns c = record { value = live c }

@@ -4,4 +4,4 @@ use Rattle.drawing.specs.Places.{place, Numbering}
 use Rattle.drawing.proofs.places.number_vertices.Given as goal
 
 abbrev pub invariant-loop-v : goal.invariant-loop-v
-invariant-loop-v l = (l.count ≡ place (held l.edges) l.v) × Numbering (held l.edges) l.v l.places
+invariant-loop-v l = (l.place ≡ place (held l.edges) l.v) × Numbering (held l.edges) l.v l.places

@@ -5,8 +5,8 @@ use Rattle.drawing.proofs.regathering.regather.Goals as goal
 
 pub returns : goal.returns
 returns c =
-    let P = c.in_default-gather_points.ensures.outcome in
-    let R = c.in_default-gather_triangles.ensures.outcome in
+    let P = c.in_ok-gather_points.ensures.outcome in
+    let R = c.in_ok-gather_triangles.ensures.outcome in
     record {
       outcome = record {
         positions_many = ap length R.1 ∙ P.0.many;

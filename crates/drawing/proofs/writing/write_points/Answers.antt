@@ -50,10 +50,10 @@ loop-v-preserved c =
     elim c.if-is_vertex.branch [
       | then-is_vertex w ↦
           let q = r ∙ w.if-is_vertex.true in
-          turn_on Point S.present (λ j p. Placed (position_at qs j) p) c.args.points.now v l _ w.in_metres.result k _
+          turn_on Point S.present (λ j p. Placed (position_at qs j) p) c.args.points.now v l _ w.from.result k _
           c.loop-v.invariant.0 w.k-is w.points-is q
           (place_room S.present v (vec_len m.edges.vertices) k (length l) c.loop-v.invariant.0 (omega arith) q (let x = c.requires.room in let y = c.loop-v.auto.points in omega arith))
-          (subst (λ (q : List Position). Placed (position_at q v) w.in_metres.result) c.positions-positions.ensures.value w.in_metres.ensures.placed) c.loop-v.invariant.1
+          (subst (λ (q : List Position). Placed (position_at q v) w.from.result) c.positions-positions.ensures.value w.from.ensures) c.loop-v.invariant.1
       | else-is_vertex w ↦
           turn_off Point S.present (λ j p. Placed (position_at qs j) p) c.args.points.now v l _ k _
           c.loop-v.invariant.0 w.k-is w.points-is (r ∙ w.if-is_vertex.false) c.loop-v.invariant.1

@@ -5,4 +5,4 @@ pub returns : goal.returns
 returns c =
     let x = c.args.self.now in
     let y = c.args.other.now in
-    level_tells x.amount x.divisor y.amount y.divisor c.requires
+    rw (c.from-m.ensures, c.from-n.ensures) (level_tells x.amount x.divisor y.amount y.divisor c.requires)

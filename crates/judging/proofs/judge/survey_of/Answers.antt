@@ -1,8 +1,12 @@
-use Rattle.std.proofs.Common.{◌≡◌, ℕ, ◌/◌, ◌<◌, true, List, length, get_or, is_some, None, vec_items, Option, sym, ap, ◌∙◌, subst, arith}
+use Rattle.std.proofs.Common.{◌≡◌, ℕ, ◌/◌, ◌<◌, true, List, length, get_or, is_some, Some, None, vec_items, vec_len, Option, sym, ap, ◌∙◌, subst, arith}
+use Rattle.surface.specs.Closed.{AllRinged}
 use Rattle.surface.specs.Pieces.{Pieces}
 use Rattle.surface.specs.Read.{whole}
 use Rattle.gathering.specs.Model.{point_of, surface_of, triangle_count}
-use Rattle.judging.specs.Tables.{Entries}
+use Rattle.judging.specs.Tables.{Entries, Twins, Outs}
+use Rattle.judging.specs.Verdict.{FirstFlaw}
+use Rattle.judging.specs.declared.judge.fans.Fans.{Fans}
+use Rattle.judging.proofs.Floods.{carried}
 use Rattle.judging.proofs.Surveys.{twin_full, last_full, twins_are, outs_are}
 use Rattle.judging.proofs.Verdicts.{refused, closed, counted, some_entry}
 use Rattle.judging.proofs.judge.survey_of.Goals as goal
@@ -13,42 +17,48 @@ Full table = (k : ℕ) → k < length table → is_some (get_or table k None) �
 
 pub entries_of-requires : goal.entries_of-requires
 entries_of-requires c =
-    let full = twin_full c.args.corners.now (length c.args.positions.now) c.requires.threes c.in_ok-pairs.ensures.paired c.in_default.ensures.first.1 in
-    record { full = subst Full (sym c.deref-5.ensures.value) full }
+    let pairs = c.in_ok-pairs.pairs in
+    let fans = pairs.fans in
+    let full = twin_full fans.corners.now (length c.args.positions.now) fans.threes pairs.paired c.in_default.ensures.first.1 in
+    record { full = subst Full (sym c.deref.ensures.value) full }
 
 pub entries_of-requires-2 : goal.entries_of-requires-2
 entries_of-requires-2 c =
-    let full = last_full c.args.corners.now (length c.args.positions.now) c.requires.threes c.in_ok-chains.ensures.chained c.in_default.ensures.first.2 in
-    record { full = subst Full (sym c.deref-6.ensures.value) full }
+    let fans = c.in_ok-pairs.pairs.fans in
+    let many = ap (λ (f : Fans). vec_len f.last) c.in_ok-pairs.ensures.fans ∙ c.in_ok-new.ensures.vertices in
+    let ringed = subst (λ (m : ℕ). AllRinged (whole fans.corners.now m)) (sym many) c.in_default.ensures.first.2 in
+    record { full = subst Full (sym c.deref-2.ensures.value) (last_full fans.corners.now (vec_len fans.last) fans.threes fans.chained ringed) }
 
-pub returns-in-Some : goal.returns-in-Some
-returns-in-Some c =
+pub returns-in-Some-clause-why_not : goal.returns-in-Some-clause-why_not
+returns-in-Some-clause-why_not c =
     let ps = c.args.positions.now in
     let cs = c.args.corners.now in
     let l = some_entry cs c.is_empty.result c.is_empty.ensures c.if-is_empty.false in
     let t : 0 < length cs / 3 = omega (arith, c.requires.threes) in
-    record { surveyed = refused (surface_of ps cs) (point_of ps) (triangle_count cs) (length ps) c.in-Some.flaw t c.in-Some.ensures.first }
+    let same = ap (λ (f : Fans). f.corners.now) c.in_ok-pairs.ensures.fans ∙ c.in_ok-new.ensures.corners in
+    let first = subst (λ (x : List ℕ). FirstFlaw (surface_of ps x) (point_of ps) (Some c.in-Some.flaw)) same c.in-Some.ensures.first in
+    refused (surface_of ps cs) (point_of ps) (triangle_count cs) (length ps) c.in-Some.flaw t first
 
-pub returns : goal.returns
-returns c =
+pub returns-clause-surveyed : goal.returns-clause-surveyed
+returns-clause-surveyed c =
     let ps = c.args.positions.now in
     let cs = c.args.corners.now in
     let n = length ps in
+    let pairs = c.in_ok-pairs.pairs in
+    let fans = pairs.fans in
+    let same = ap (λ (f : Fans). f.corners.now) c.in_ok-pairs.ensures.fans ∙ c.in_ok-new.ensures.corners in
+    let many = ap (λ (f : Fans). vec_len f.last) c.in_ok-pairs.ensures.fans ∙ c.in_ok-new.ensures.vertices in
     let l = some_entry cs c.is_empty.result c.is_empty.ensures c.if-is_empty.false in
-    let none = c.in_default.ensures.first in
-    let C = c.in_ok-chains.ensures.chained in
+    let none = subst (λ (x : List ℕ). FirstFlaw (surface_of ps x) (point_of ps) None) same c.in_default.ensures.first in
     let K = closed cs n c.requires.numbered c.requires.differing c.requires.threes l (point_of ps) none in
-    let k : length c.deref-3.result.now ≡ n = ap length c.deref-3.ensures.value ∙ C.vertices in
-    let p = subst (λ (x : ℕ). Pieces (whole cs n) x) (sym c.counts.ensures.pieces) (subst (λ (m : ℕ). Pieces (whole cs m) c.in_ok-pieces.pieces) k c.in_ok-pieces.ensures.pieces) in
-    let many = counted cs n c.requires.numbered c.requires.differing c.requires.threes l K c.counts.result c.counts.ensures.vertices c.counts.ensures.triangles c.counts.ensures.euler p in
+    let found = carried (λ (x : List ℕ) (m : ℕ). Pieces (whole x m) c.in_ok-pieces.pieces) (sym same) (sym many) c.in_ok-pieces.ensures.pieces in
+    let p = subst (λ (x : ℕ). Pieces (whole cs n) x) (sym c.counts.ensures.pieces) found in
+    let counts = counted cs n c.requires.numbered c.requires.differing c.requires.threes l K c.counts.result c.counts.ensures.vertices c.counts.ensures.triangles c.counts.ensures.euler p in
     let twin = vec_items c.in_ok-twin.twin in
     let out = vec_items c.in_ok-out.out in
-    let twins = subst (λ (t : List (Option ℕ)). Entries t twin) c.deref-5.ensures.value c.in_ok-twin.ensures.entries in
-    let outs = subst (λ (t : List (Option ℕ)). Entries t out) c.deref-6.ensures.value c.in_ok-out.ensures.entries in
-    record {
-      surveyed = (
-        (K, none.3, many),
-        twins_are cs n c.requires.threes c.in_ok-pairs.ensures.paired twin twins,
-        outs_are cs n c.requires.threes C out outs,
-      );
-    }
+    let twins = twins_are fans.corners.now n fans.threes pairs.paired twin (subst (λ (t : List (Option ℕ)). Entries t twin) c.deref.ensures.value c.in_ok-twin.ensures.entries) in
+    let outs = outs_are fans.corners.now (vec_len fans.last) fans.threes fans.chained out (subst (λ (t : List (Option ℕ)). Entries t out) c.deref-2.ensures.value c.in_ok-out.ensures.entries) in (
+      (K, none.3, counts),
+      subst (λ (x : List ℕ). Twins (whole x n) (length x) twin) same twins,
+      carried (λ (x : List ℕ) (m : ℕ). Outs (whole x m) (length x) m out) (sym same) (sym many) outs,
+    )

@@ -8,6 +8,6 @@ returns c =
       outcome = record {
         thinned_by = T;
         answers_exact = gathered_exact c.args.gathering c.in_ok-thinned.thinned.opened.counts T.judged c.look_over.ensures.bytes T.promise.ledger;
-        cost_is = c.exact_cost-cost.ensures.exact T.consistent;
+        cost_is = c.exact_cost-cost.ensures.exact;
       };
     }

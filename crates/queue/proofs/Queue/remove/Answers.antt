@@ -1,31 +1,39 @@
-use Rattle.std.proofs.Common.{◌≡◌, ◌+◌, ◌-◌, vec_items, refl, ap, ◌∙◌, arith}
+use Rattle.std.proofs.Common.{◌≡◌, ◌+◌, ◌-◌, ◌∙◌, arith}
+use Rattle.std.proofs.lemmas.Grind.{merely}
+use Rattle.queue.proofs.Orders.{sound_is}
 use Rattle.queue.proofs.Steps.{remove_filled, remove_last_ranked, remove_ranked, seat_present}
 use Rattle.queue.proofs.Queue.remove.Goals as goal
 
-pub invariant_of-self : goal.invariant_of-self
-invariant_of-self g c =
-    let q = c.args.self.now in
+pub invariant_of-heap : goal.invariant_of-heap
+invariant_of-heap g c =
+    let h = c.args.self.now.heap in
     let n = c.args.number in
     let a = c.seat-seat.result in
     let found = c.seat-seat.ensures in
-    let e : q.count ≡ q.count - 1 + 1 = omega (arith, seat_present q n a found c.requires.present) in record { even = c.exchange.ensures.len ∙ q.even; counted = omega (arith, q.counted); filled = remove_filled q n a found (q.count - 1) e c.exchange.new.self c.exchange.ensures c.requires.within (seat_present q n a found c.requires.present) }
+    let present = seat_present h n a found c.requires.present in
+    let e : h.count ≡ h.count - 1 + 1 = omega (arith, present) in
+    record { even = c.exchange.ensures.len ∙ h.even; counted = omega (arith, h.counted); filled = remove_filled h n a found (h.count - 1) e c.exchange.new.self c.exchange.ensures c.requires.within present }
 
-pub returns-then-seat-last : goal.returns-then-seat-last
-returns-then-seat-last g c =
+pub settle-requires-clause-rest : goal.settle-requires-clause-rest
+settle-requires-clause-rest g c =
     let q = c.args.self.now in
+    let h = q.heap in
     let n = c.args.number in
     let a = c.seat-seat.result in
     let found = c.seat-seat.ensures in
-    let e : q.count ≡ q.count - 1 + 1 = omega (arith, seat_present q n a found c.requires.present) in
+    let e : h.count ≡ h.count - 1 + 1 = omega (arith, seat_present h n a found c.requires.present) in
+    let o = g.C.Ordered in
     let laws = g.met.C.Ordered in
-    record { keys = ap vec_items c.settle.ensures.keys; sound = λ h. c.settle.ensures.sound (remove_ranked g.C.Ordered laws.total laws.transitive q n a found h (q.count - 1) e c.exchange.new.self c.exchange.ensures c.if-seat-last.true) }
+    remove_ranked o laws.total laws.transitive h n a found (sound_is o laws.total laws.transitive laws.told h q.sound) (h.count - 1) e c.exchange.new.self c.exchange.ensures c.if-seat-last.true
 
-pub returns-else-seat-last : goal.returns-else-seat-last
-returns-else-seat-last g c =
+pub invariant_of-self-else-seat-last : goal.invariant_of-self-else-seat-last
+invariant_of-self-else-seat-last g c =
     let q = c.args.self.now in
+    let h = q.heap in
     let n = c.args.number in
     let a = c.seat-seat.result in
     let found = c.seat-seat.ensures in
-    let e : q.count ≡ q.count - 1 + 1 = omega (arith, seat_present q n a found c.requires.present) in
+    let e : h.count ≡ h.count - 1 + 1 = omega (arith, seat_present h n a found c.requires.present) in
+    let o = g.C.Ordered in
     let laws = g.met.C.Ordered in
-    record { keys = refl; sound = λ h. record { ranked = remove_last_ranked g.C.Ordered laws.total laws.transitive q n a found h (q.count - 1) e c.exchange.new.self c.exchange.ensures c.if-seat-last.false } }
+    record { sound = merely (record { ranked = remove_last_ranked o laws.total laws.transitive h n a found (sound_is o laws.total laws.transitive laws.told h q.sound) (h.count - 1) e c.exchange.new.self c.exchange.ensures c.if-seat-last.false }) }

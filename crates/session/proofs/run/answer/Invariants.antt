@@ -1,10 +1,11 @@
-use Rattle.std.proofs.Common.{◌-◌, length, vec_items}
+use Rattle.std.proofs.Common.{eqb, length, vec_items}
+use Rattle.std.proofs.Math.Bool.{not}
 use Rattle.session.specs.Held.{held}
 use Rattle.session.proofs.Runs.{Going}
 use Rattle.session.proofs.run.answer.Given as goal
 
 abbrev pub invariant-loop-read : goal.invariant-loop-read
-invariant-loop-read l = Going l.input (vec_items l.initial.out) (vec_items l.out) l.at (held l.state)
+invariant-loop-read g l = Going (not (eqb g.row.CALLS 0)) l.input (vec_items l.initial.out) (vec_items l.out) l.rest (held l.state)
 
 abbrev pub decreases-loop-read : goal.decreases-loop-read
-decreases-loop-read l = length l.input - l.at
+decreases-loop-read g l = length l.rest

@@ -4,9 +4,6 @@ use Rattle.mesh.proofs.halfedges.HalfEdges.record_of.Goals as goal
 pub index-requires : goal.index-requires
 index-requires c = joins.e_corner c.args.self.now c.args.e c.requires.live
 
-pub following-requires : goal.following-requires
-following-requires c = record { low = joins.e_low c.args.self.now c.args.e c.requires.live }
-
 pub index-requires-2 : goal.index-requires-2
 index-requires-2 c = joins.next_corner c.args.self.now c.args.e c.requires.live c.following.result c.following.ensures.value
 

@@ -1,4 +1,4 @@
-use Rattle.std.proofs.Common.{arith, length-set}
+use Rattle.std.proofs.Common.{◌<◌, arith, length-set}
 use Rattle.mesh.proofs.Walking.{start, inside, inside_prev, fewer, step, finish}
 use Rattle.mesh.proofs.halfedges.edits.walk.Goals as goal
 
@@ -14,8 +14,10 @@ offset_bounds-corners-h c = omega (arith, inside c.requires.ready c.loop-h.invar
 pub bounds-corners-h : goal.bounds-corners-h
 bounds-corners-h c = omega (arith, inside c.requires.ready c.loop-h.invariant c.loop-h.auto.corners)
 
-pub preceding-requires : goal.preceding-requires
-preceding-requires c = omega (arith, inside c.requires.ready c.loop-h.invariant c.loop-h.auto.corners, c.requires.ready.few)
+pub offset_bounds-twin-preceding : goal.offset_bounds-twin-preceding
+offset_bounds-twin-preceding c =
+    let p : c.preceding.result < 6144 = rw c.preceding.ensures.value (omega (arith, inside_prev c.requires.ready c.loop-h.invariant c.loop-h.auto.corners, c.requires.ready.linked, c.requires.ready.few)) in
+    omega arith
 
 pub bounds-twin-preceding : goal.bounds-twin-preceding
 bounds-twin-preceding c = rw c.preceding.ensures.value (inside_prev c.requires.ready c.loop-h.invariant c.loop-h.auto.corners)

@@ -1,10 +1,16 @@
 use Rattle.std.proofs.Common.{refl}
 use Rattle.ledger.specs.declared.call.Call.TheVariants.{Redo}
-use Rattle.opened_surface.specs.Calls.{redo_answer}
-use Rattle.opened_surface.proofs.Promises.{called}
-use Rattle.opened_surface.proofs.Unchanged.{none_same}
 use Rattle.ledger.proofs.Chosen.{step_in_words}
+use Rattle.opened_surface.specs.Calls.{redo_answer}
+use Rattle.opened_surface.proofs.Promises.{all_of, called, judged_on}
+use Rattle.opened_surface.proofs.Unchanged.{none_same}
 use Rattle.opened_surface.proofs.opened.Opened.redo.Goals as goal
+
+pub invariant_of-self : goal.invariant_of-self
+invariant_of-self g c =
+    let x = c.args.self.now in
+    let F = c.redo.ensures.follows x.tied in
+    record { tied = F.tied; judged = judged_on g.G.Gauge g.G.Cost.Ordered x.thinning c.redo.new.self x.counts (all_of F) x.judged }
 
 pub returns : goal.returns
 returns g c =
@@ -12,6 +18,6 @@ returns g c =
     let o = g.met.G.Cost.Ordered in
     let words = step_in_words g.G.Gauge g.G.Cost.Ordered o.total o.transitive o.told in
     record {
-      called = λ K. called g.G.Gauge g.G.Cost.Ordered words x _ Redo (redo_answer c.do_redo.result) (c.do_redo.ensures.follows K.tied) K refl;
-      refused = none_same x _ refl c.do_redo.result c.do_redo.ensures.unchanged;
+      called = called g.G.Gauge g.G.Cost.Ordered words x _ Redo (redo_answer c.redo.result) (c.redo.ensures.follows x.tied);
+      refused = none_same x _ refl c.redo.result c.redo.ensures.unchanged;
     }

@@ -1,11 +1,17 @@
 use Rattle.std.proofs.Common.{refl}
 use Rattle.ledger.specs.declared.call.Call.TheVariants.{Step}
 use Rattle.ledger.proofs.Stepped.{step_right}
-use Rattle.opened_surface.specs.Calls.{step_answer}
-use Rattle.opened_surface.proofs.Promises.{called}
-use Rattle.opened_surface.proofs.Unchanged.{none_same}
 use Rattle.ledger.proofs.Chosen.{step_in_words}
+use Rattle.opened_surface.specs.Calls.{step_answer}
+use Rattle.opened_surface.proofs.Promises.{all_of, called, judged_on}
+use Rattle.opened_surface.proofs.Unchanged.{none_same}
 use Rattle.opened_surface.proofs.opened.Opened.step.Goals as goal
+
+pub invariant_of-self : goal.invariant_of-self
+invariant_of-self g c =
+    let x = c.args.self.now in
+    let F = c.step.ensures.follows x.tied in
+    record { tied = F.tied; judged = judged_on g.G.Gauge g.G.Cost.Ordered x.thinning c.step.new.self x.counts (all_of F) x.judged }
 
 pub returns : goal.returns
 returns g c =
@@ -13,7 +19,7 @@ returns g c =
     let o = g.met.G.Cost.Ordered in
     let words = step_in_words g.G.Gauge g.G.Cost.Ordered o.total o.transitive o.told in
     record {
-      called = λ K. called g.G.Gauge g.G.Cost.Ordered words x _ Step (step_answer c.do_step.result) (c.do_step.ensures.follows K.tied) K refl;
-      first = λ K. step_right g.G.Gauge g.G.Cost.Ordered words _ (c.do_step.ensures.follows K.tied).entry;
-      refused = none_same x _ refl c.do_step.result c.do_step.ensures.unchanged;
+      called = called g.G.Gauge g.G.Cost.Ordered words x _ Step (step_answer c.step.result) (c.step.ensures.follows x.tied);
+      first = step_right g.G.Gauge g.G.Cost.Ordered words _ (c.step.ensures.follows x.tied).entry;
+      refused = none_same x _ refl c.step.result c.step.ensures.unchanged;
     }

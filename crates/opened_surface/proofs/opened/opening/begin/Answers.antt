@@ -5,6 +5,6 @@ pub returns : goal.returns
 returns g c =
     record {
       begun =
-          begun g.G.Gauge g.G.Cost.Ordered g.met.G.Gauge.opened_long c.args.mesh c.args.gauge c.open.new.self c.args.queue c.fill.new.queue c.args.stale c.args.counts
-          c.open.ensures.setting c.open.result c.open.ensures.opened c.fill.ensures.keyed c.fill.ensures.long c.fill.ensures.sound;
+          begun g.G.Gauge g.G.Cost.Ordered g.met.G.Gauge.opened_long c.args.mesh c.args.gauge c.open.new.self c.args.queue c.fill.new.queue c.args.stale
+          c.open.ensures.setting c.open.result c.open.ensures.opened c.fill.ensures.keyed c.fill.ensures.long;
     }

@@ -1,40 +1,13 @@
-use Rattle.std.proofs.Common.{refl, arith}
-use Rattle.std.proofs.lemmas.Result.{err_from_is_err_and}
-use Rattle.session.specs.declared.command.Command.TheVariants.{Vertex, Triangle, Write, End}
-use Rattle.session.specs.Spelled.{short_vertex, short_triangle}
-use Rattle.session.proofs.Cuts.{missing_words, missing_gauge, read_letter, read_gauge, read_three}
+use Rattle.std.proofs.Common.{arith, rules}
+use Rattle.std.proofs.lemmas.Grind.{common_steps}
+use Rattle.session.specs.Spelled.{short_vertex, short_triangle, no_gauge}
 use Rattle.session.proofs.command.Command.read.Goals as goal
 
 pub returns-in_err-x-in-86 : goal.returns-in_err-x-in-86
-returns-in_err-x-in-86 c =
-    let p = err_from_is_err_and c.from_residual.result c.from_residual.ensures.1 in
-    let e = c.in_err-x-in-86.ensures.read in
-    rw (p.1, p.2, e.0) (record { read = missing_words c.args.input.now c.args.at 86 short_vertex (omega arith) c.in-86.is e.1 })
+returns-in_err-x-in-86 g c = search (rules, short_vertex)
 
 pub returns-in_err-a-in-84 : goal.returns-in_err-a-in-84
-returns-in_err-a-in-84 c =
-    let p = err_from_is_err_and c.from_residual-in_err-a-in-84.result c.from_residual-in_err-a-in-84.ensures.1 in
-    let e = c.in_err-a-in-84.ensures.read in
-    rw (p.1, p.2, e.0) (record { read = missing_words c.args.input.now c.args.at 84 short_triangle (omega arith) c.in-84.is e.1 })
+returns-in_err-a-in-84 g c = search (rules, short_triangle)
 
-pub returns-then-input-at-lt2 : goal.returns-then-input-at-lt2
-returns-then-input-at-lt2 c = record { read = missing_gauge c.args.input.now c.args.at (omega arith) c.in-79.is (omega arith) }
-
-pub returns-in_ok-x-in-86 : goal.returns-in_ok-x-in-86
-returns-in_ok-x-in-86 c =
-    let e = c.in_ok-x-in-86.ensures.read in
-    record { read = read_three c.args.input.now c.args.at (Vertex c.in_ok-x-in-86.x c.in_ok-x-in-86.y c.in_ok-x-in-86.z) 86 _ _ _ refl e.0 c.in-86.is e.1 }
-
-pub returns-in_ok-a-in-84 : goal.returns-in_ok-a-in-84
-returns-in_ok-a-in-84 c =
-    let e = c.in_ok-a-in-84.ensures.read in
-    record { read = read_three c.args.input.now c.args.at (Triangle c.in_ok-a-in-84.a c.in_ok-a-in-84.b c.in_ok-a-in-84.c) 84 _ _ _ refl e.0 c.in-84.is e.1 }
-
-pub returns-else-input-at-lt2 : goal.returns-else-input-at-lt2
-returns-else-input-at-lt2 c = record { read = read_gauge c.args.input.now c.args.at (omega arith) c.in-79.is }
-
-pub returns-in-87 : goal.returns-in-87
-returns-in-87 c = record { read = read_letter c.args.input.now c.args.at Write 87 refl (omega arith) c.in-87.is }
-
-pub returns-in-69 : goal.returns-in-69
-returns-in-69 c = record { read = read_letter c.args.input.now c.args.at End 69 refl (omega arith) c.in-69.is }
+pub returns-in_err-gauge-in-79 : goal.returns-in_err-gauge-in-79
+returns-in_err-gauge-in-79 g c = grind (arith, common_steps, no_gauge)

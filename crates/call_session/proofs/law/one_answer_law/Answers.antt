@@ -1,5 +1,0 @@
-use Rattle.call_session.proofs.SessionOnce.{answered_once}
-use Rattle.call_session.proofs.law.one_answer_law.Goals as goal
-
-pub returns : goal.returns
-returns c = record { stands = answered_once }

@@ -1,7 +1,0 @@
-use Rattle.std.proofs.Common.{refl}
-use Rattle.planes.specs.Quadrics.{minus}
-use Rattle.planes.proofs.quadric.Quadric.minus.Goals as goal
-
-pub returns : goal.returns
-unfolding minus
-returns c = record { value = refl }

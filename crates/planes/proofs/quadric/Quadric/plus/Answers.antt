@@ -1,7 +1,0 @@
-use Rattle.std.proofs.Common.{refl}
-use Rattle.planes.specs.Quadrics.{plus}
-use Rattle.planes.proofs.quadric.Quadric.plus.Goals as goal
-
-pub returns : goal.returns
-unfolding plus
-returns c = record { value = refl }

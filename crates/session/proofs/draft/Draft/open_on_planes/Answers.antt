@@ -1,0 +1,20 @@
+use Rattle.std.proofs.lemmas.Result.{IfOk-weaker}
+use Rattle.planes.specs.Meaning.{by_planes, whole_order}
+use Rattle.session.specs.declared.gauges.Gauge.TheVariants.{Planes}
+use Rattle.session.proofs.Drafts.{opened_replied, back_replied}
+use Rattle.session.proofs.draft.Draft.open_on_planes.Goals as goal
+
+pub returns-in-Ok : goal.returns-in-Ok
+returns-in-Ok c =
+    let W = c.in-Ok.ensures.outcome in
+    record {
+      replied = opened_replied by_planes whole_order Planes c.args.self.named c.args.self.gathering c.in_ok-gauge.gauge c.in_ok-gauge.ensures.made.0 c.in-Ok.opened c.counts-counts.result W c.counts-counts.ensures.counted;
+    }
+
+pub returns-in-Err : goal.returns-in-Err
+returns-in-Err c =
+    record {
+      replied =
+          IfOk-weaker c.not_opened.result _ _
+          (λ p. back_replied by_planes whole_order Planes c.args.self.named c.args.self.gathering c.in_ok-gauge.gauge c.in_ok-gauge.ensures.made.0 c.in-Err.unopened c.in-Err.ensures.outcome p.0 p.1) c.not_opened.ensures.back;
+    }
