@@ -1,6 +1,6 @@
 -- What is drawn into lists of just the right lengths comes back whole. e are the half-edges of the mesh m, of which a vertices and b
 -- triangles are live.
-use Rattle.std.proofs.Common.{◌≡◌, ℕ, List, length, take, vec_items, vec_len, Result, Vec, sym, ap, ◌∙◌, subst, inl, inr, arith}
+use Rattle.std.proofs.Common.{◌≡◌, ℕ, List, length, take, vec_items, vec_len, Result, Ok, Err, Vec, refl, sym, ap, ◌∙◌, subst, inl, inr, arith}
 use Rattle.std.proofs.lemmas.List.{take_all}
 use Rattle.gathering.specs.declared.gathering.Gathering.{Gathering}
 use Rattle.surface.specs.Euler.{vertices, triangles}
@@ -9,7 +9,9 @@ use Rattle.mesh.specs.Laws.{vertex_slots, triangle_slots}
 use Rattle.mesh.specs.declared.halfedges.HalfEdges.{HalfEdges}
 use Rattle.mesh.specs.declared.mesh.Mesh.{Mesh}
 use Rattle.drawing.specs.Places.{place, triangle_place}
-use Rattle.drawing.specs.Drawn.{Drawn, Short}
+use Rattle.drawing.specs.Drawn.{Drawn, Draws, Short}
+use Rattle.drawing.specs.declared.refusal.TooShort.{TooShort}
+use Rattle.std.specs.Result.{IsOk}
 use Rattle.drawing.specs.Back.{Regathers, ComesBackWhole}
 use Rattle.drawing.specs.declared.point.Point.{Point}
 use Rattle.drawing.specs.declared.regathering.Unfit.{Unfit}
@@ -29,8 +31,12 @@ module _ (m : Mesh) (e : HalfEdges) (is : e ≡ m.edges) (a b : ℕ)
   triangles_all : length ts ≡ triangles (surface m) (triangle_slots m)
   triangles_all = q ∙ triangles_are m e is a b counted numbered ps ts
 
-  pub never_short : (ps' : List Point) (ts' : List (List ℕ)) → Short m ps ts ps' ts' → ⊥
+  never_short : (ps' : List Point) (ts' : List (List ℕ)) → Short m ps ts ps' ts' → ⊥
   never_short ps' ts' s = elim s.no_room [ inl l ↦ omega (arith, vertices_all) | inr l ↦ omega (arith, triangles_all) ]
+
+  pub just_drawn : (r : Result (ℕ × ℕ) TooShort) (ps' : List Point) (ts' : List (List ℕ)) → Draws m ps ts r ps' ts' → IsOk r
+  just_drawn (Ok x) ps' ts' D = refl
+  just_drawn (Err e) ps' ts' s = absurd (never_short ps' ts' s)
 
   pub all_back : (c d : ℕ) (ps' : List Point) (ts' : List (List ℕ)) → Drawn m ps ts c d ps' ts' →
       (qs : List Point) (us : List (List ℕ)) → qs ≡ ps' → us ≡ ts' → (r : Result Gathering Unfit) → Regathers qs us r → ComesBackWhole m r

@@ -31,6 +31,7 @@ pub fn draw(
     if points.len() < vertex_count || triangles.len() < triangle_count {
         return Err(TooShort);
     }
+    // Kept: draw takes no memory, and a mesh has no more vertices than this.
     let mut places = [0; 1024];
     number_vertices(edges, &mut places);
     write_points(mesh, points);

@@ -96,8 +96,6 @@ pub fn redraw(heap: Global, mesh: &Mesh) -> Result<Gathering, Unfit>
     let triangle_count = usize::from(live_triangles(edges));
     let mut points = vec![in heap; Point::default(); vertex_count]?;
     let mut triangles = vec![in heap; [0; 3]; triangle_count]?;
-    match draw(mesh, &mut points, &mut triangles) {
-        Ok(_) => regather(heap, &points, &triangles),
-        Err(_) => unreachable!(),
-    }
+    draw(mesh, &mut points, &mut triangles).unwrap();
+    regather(heap, &points, &triangles)
 }

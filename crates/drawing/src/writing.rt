@@ -16,7 +16,7 @@ pub(crate) fn write_points(mesh: &Mesh, points: &mut [Point])
 {
     let edges = mesh.edges();
     let positions = mesh.positions();
-    // Kept as a count of its own: by `enumerate` over the live ones the proof did not close.
+    // Kept as a count of its own: by `enumerate` the proof did not close; over a zip with `iter_mut` only the list's length is known at `returns`.
     let mut k = 0;
     for v in 0..edges.vertex_count() {
         if is_vertex(edges, v as u16) {
@@ -27,6 +27,7 @@ pub(crate) fn write_points(mesh: &Mesh, points: &mut [Point])
 }
 
 /// The places of the corners of the live triangle `t`.
+// Kept: half-edges and places are lent apart; a struct of the two would be made by `draw` alone, for this one use.
 fn corner_places(edges: &HalfEdges, places: &[u16], t: u16) -> [u16; 3]
     requires live { (held edges.now).alive t ≡ true }
     requires room { vec_len edges.now.vertices ≤ length places.now }
@@ -47,7 +48,7 @@ pub(crate) fn write_triangles(edges: &HalfEdges, places: &[u16], triangles: &mut
     requires room { triangle_place (held edges.now) (vec_len edges.now.triangles) ≤ length triangles.old }
     ensures written { Cornered (held edges.now) (vec_len edges.now.triangles) triangles.old triangles.new }
 {
-    // Kept as a count of its own: by `enumerate` over the live ones the proof of `write_points` did not close.
+    // Kept as a count of its own, as in `write_points`.
     let mut k = 0;
     for t in 0..edges.half_edge_count() / 3 {
         if edges.is_live((3 * t) as u16) {

@@ -11,6 +11,7 @@ pub mod calls;
 pub struct Gathering {
     positions: Vec<Position>,
     // three corners to a triangle, one triangle after the other
+    // Kept: half-edge 3 * t + k begins at corner k of triangle t, so the flat list is numbered as the half-edges are.
     corners: Vec<u16>,
     ghost vertices: { vec_len positions ≤ 1024 },
     ghost triangles: { vec_len corners ≤ 6144 },

@@ -6,7 +6,7 @@ ghost use Rattle.surface.specs.Geometry.{normal, null};
 ghost use Rattle.geometry.specs.Values.{Bounded, value_of, vector_of};
 
 /// Where a vertex lies, in quarter metres.
-#[derive(Clone, Copy)]
+#[derive(Clone, Copy, Default)]
 pub struct Position {
     pub x: u8,
     pub y: u8,
@@ -47,7 +47,8 @@ pub fn normal_of(a: Position, b: Position, c: Position) -> Normal
     }
 }
 
-fn difference(a: u8, b: u8) -> i64
+/// The way from `b` to `a` along one axis.
+pub fn difference(a: u8, b: u8) -> i64
     ensures value { result ≡ pos a -ℤ pos b }
     ensures bound { Bounded 255 result }
 {

@@ -6,6 +6,7 @@ use session::run::run;
 use std::io;
 use std::io::Write;
 
+// Kept: one function for both programs would be public and promise nothing, since no clause says which bytes are read or written.
 fn main(rt: HostRuntime) -> io::Result<()> {
     let input = read_input(&rt)?;
     let answer = run::<true>(rt.alloc(), input.as_slice())?;

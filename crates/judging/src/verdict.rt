@@ -5,8 +5,8 @@ ghost use Rattle.judging.specs.declared.verdict.Unjudged.TheVariants.{NoMemory};
 
 use std::alloc::AllocError;
 
-/// The counts of a closed surface.
-#[derive(Clone, Copy)]
+/// The counts of a closed surface. By default they are those of no surface, all zero.
+#[derive(Clone, Copy, Default)]
 pub struct Counts {
     pub vertices: u16,
     pub triangles: u16,

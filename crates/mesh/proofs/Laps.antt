@@ -1,7 +1,6 @@
 -- Walks round a vertex: from a half-edge on by a function, back to where they set out.
-use Rattle.std.proofs.Common.{◌≡◌, ℕ, zero, suc, ◌+◌, ◌-◌, ◌/◌, ◌<◌, ◌≤◌, true, cond, eqb, ◌≢◌, List, length, get_or, sym, refl, ap, ◌∙◌, subst, arith}
+use Rattle.std.proofs.Common.{◌≡◌, ℕ, zero, suc, ◌+◌, ◌-◌, ◌/◌, ◌<◌, ◌≤◌, true, ◌≢◌, List, length, get_or, sym, refl, ap, ◌∙◌, subst, arith}
 use native.Mathlib.Decide.{ℕ_discrete, dec_lt}
-use Rattle.std.proofs.lemmas.Bool.{eq-eqb, ne_eqb, cond-true, cond-false}
 use Rattle.surface.specs.Surface.{Surface, Tri}
 use Rattle.surface.specs.Ring.{Turn, Ring}
 use Rattle.surface.specs.Closed.{Closed}
@@ -16,11 +15,7 @@ pub steps_none : (f : ℕ → ℕ) (h : ℕ) → steps f 0 h ≡ h
 unfolding steps
 steps_none f h = refl
 
-pub steps_first : (f : ℕ → ℕ) (n h : ℕ) → steps f (suc n) h ≡ steps f n (f h)
-unfolding steps
-steps_first f n h = refl
-
-pub steps_add : (f : ℕ → ℕ) (m n h : ℕ) → steps f (m + n) h ≡ steps f n (steps f m h)
+steps_add : (f : ℕ → ℕ) (m n h : ℕ) → steps f (m + n) h ≡ steps f n (steps f m h)
 unfolding steps
 steps_add f zero n h = let e : 0 + n ≡ n = omega arith in ap (λ k. steps f k h) e
 steps_add f (suc m) n h = let e : suc m + n ≡ suc (m + n) = omega arith in rw e (steps_add f m n (f h))
@@ -29,37 +24,6 @@ pub steps_more : (f : ℕ → ℕ) (n h : ℕ) → steps f (suc n) h ≡ f (step
 unfolding steps
 steps_more f zero h = refl
 steps_more f (suc n) h = steps_more f n (f h)
-
--- how many steps on from h come before o, counted up to k
-unfoldable pub left : (ℕ → ℕ) → ℕ → ℕ → ℕ → ℕ
-left f o zero h = 0
-left f o (suc k) h = cond (eqb (f h) o) 0 (suc (left f o k (f h)))
-
-module _ (f : ℕ → ℕ) (o : ℕ) where
-  left_stop : (k h : ℕ) → f h ≡ o → left f o (suc k) h ≡ 0
-  unfolding left
-  left_stop k h e = cond-true (eqb (f h) o) _ _ (eq-eqb (f h) o e)
-
-  left_go : (k h : ℕ) → f h ≢ o → left f o (suc k) h ≡ suc (left f o k (f h))
-  unfolding left
-  left_go k h n = cond-false (eqb (f h) o) _ _ (ne_eqb (f h) o n)
-
-  left_enough : (m k h : ℕ) → m < k → steps f m (f h) ≡ o → left f o (suc k) h ≡ left f o k h
-  left_enough m zero h l e = absurd (omega arith)
-  left_enough zero (suc k) h l e = let s : f h ≡ o = sym (steps_none f (f h)) ∙ e in left_stop (suc k) h s ∙ sym (left_stop k h s)
-  left_enough (suc m) (suc k) h l e = go (ℕ_discrete (f h) o) (left_enough m k (f h) (omega arith) (sym (steps_first f m (f h)) ∙ e))
-    where
-      go : Dec (f h ≡ o) → left f o (suc k) (f h) ≡ left f o k (f h) → left f o (suc (suc k)) h ≡ left f o (suc k) h
-      go (yes i) r = left_stop (suc k) h i ∙ sym (left_stop k h i)
-      go (no i) r = left_go (suc k) h i ∙ ap suc r ∙ sym (left_go k h i)
-
-  pub left_falls : (m k h : ℕ) → m < k → steps f m (f h) ≡ o → f h ≢ o → left f o k (f h) < left f o k h
-  left_falls m zero h l e n = absurd (omega arith)
-  left_falls zero (suc k) h l e n = absurd (n (sym (steps_none f (f h)) ∙ e))
-  left_falls (suc m) (suc k) h l e n =
-      let p = left_go k h n in
-      let q = left_enough m k (f h) (omega arith) (sym (steps_first f m (f h)) ∙ e) in
-      omega arith
 
 pub turn_one : {S : Surface} → Closed S → {v h g k : ℕ} → Turn S v h g → Turn S v h k → g ≡ k
 turn_one R (a, b, c, s, t) (a', b', c', s', t') = R.single _ _ _ _ _ _ t (moved refl (same_third s' s) refl t')
@@ -161,15 +125,3 @@ module _ {S : Surface} {f : ℕ → ℕ} {v o : ℕ} {P : ℕ → Type 0} where
       met : (j : ℕ) → j < suc W.far → Dec (j ≡ W.far) → P (steps f j o)
       met j q (yes i) = subst P (sym W.at ∙ ap (λ k. steps f k o) (sym i)) p
       met j q (no i) = W.met j (omega arith)
-
-  pub walk_less : {h n F : ℕ} → Lap S f v o n → n ≤ F → Walking S f v o h P → f h ≢ o → left f o F (f h) < left f o F h
-  walk_less {h} {n} {F} L b W x =
-      let m : ℕ = n - 1 - W.far in
-      left_falls f o m F h (omega arith) (sym (steps_first f m h) ∙ ap (steps f (suc m)) (sym W.at) ∙ sym (steps_add f W.far (suc m) o) ∙ ap (λ k. steps f k o) (whole (dec_lt W.far n)) ∙ L.back) x
-    where
-      whole : Dec (W.far < n) → W.far + suc (n - 1 - W.far) ≡ n
-      whole (yes i) = omega arith
-      whole (no i) =
-          let p = L.some in
-          let q : suc (n - 1) ≡ n = omega arith in
-          absurd (W.first (n - 1) (omega arith) (sym (steps_more f (n - 1) o) ∙ ap (λ k. steps f k o) q ∙ L.back))

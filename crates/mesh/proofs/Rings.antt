@@ -1,8 +1,9 @@
 -- What a walk round a vertex gives, and what is left of it.
-use Rattle.std.proofs.Common.{◌≡◌, ℕ, ◌/◌, ◌<◌, ◌≤◌, ◌≢◌, Bool, true, false, not, eqb, ◌&&◌, List, [], ◌∷◌, length, get_or, vec_len, Some, None, Option, unwrap_or, sym, refl, ap, ◌∙◌, subst, inl, inr, arith}
+use Rattle.std.proofs.Common.{◌≡◌, ℕ, ◌/◌, ◌<◌, ◌≤◌, ◌≢◌, Bool, true, false, not, eqb, ◌&&◌, List, [], ◌∷◌, length, get_or, map, vec_len, Some, None, Option, unwrap_or, sym, refl, ap, ◌∙◌, subst, inl, inr, arith}
 use Rattle.std.specs.Bool.{then_some, MatchBool}
-use Rattle.std.specs.List.{AllWithin, HoldsAt}
+use Rattle.std.specs.List.{AllWithin, HoldsAt, Contains}
 use Rattle.std.specs.Option.{MatchOption}
+use Rattle.std.proofs.lemmas.List.{map-id, get_or_default}
 use Rattle.std.proofs.lemmas.Bool.{cases_Bool, and_parts, both_ways, eqb-true, eq-eqb}
 use Rattle.surface.specs.Surface.{next, Tri}
 use Rattle.surface.specs.Ring.{Ring}
@@ -75,6 +76,14 @@ module _ (e : HalfEdges) where
 
     pub place_of : (h a b : ℕ) → Tri (held e) h v a b → (k : ℕ) × (k < length l) × (get_or l k 0 ≡ h)
     place_of h a b t = (round ((closed_held e).known _ _ _ _ t)).full h a b t
+
+    -- a walk that is over met each half-edge at v
+    pub met_all : (got : List ℕ) → map (λ h. h) got ≡ l → (h a b : ℕ) → Tri (held e) h v a b → Contains got h
+    met_all got i h a b t = let (k, q, j) = place_of h a b t in subst (λ x. Contains x h) (sym i ∙ map-id got) (k, q, get_or_default l k h 0 q ∙ j)
+
+    -- the half-edge whose turn it is begins at v
+    pub met_at : {h k : ℕ} → (k < length l) × (h ≡ get_or l k h) → (a : ℕ) × (b : ℕ) × Tri (held e) h v a b
+    met_at {h} {k} (p, i) = let (a, b, t) = at_place k p in (a, b, renumber (get_or_default l k 0 h p ∙ sym i) t)
 
     -- what is answered of each half-edge
     pub all_round : (P : ℕ → Type 0) (r : Bool) → MatchBool r (AllWithin P l 0 (length l)) ((k : ℕ) × (k < length l) × HoldsAt (λ h. P h → ⊥) l k) →

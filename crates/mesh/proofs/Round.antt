@@ -11,7 +11,7 @@ use Rattle.mesh.specs.Model.{held}
 use Rattle.mesh.specs.declared.halfedges.HalfEdges.{HalfEdges}
 use Rattle.surface.proofs.Found.{closed_found}
 use Rattle.mesh.proofs.Reading.{alive_read, present_read, set_within, twin_turns}
-use Rattle.mesh.proofs.Laps.{left, Turns, turn_one, Lap, lap_of, Walking, walk_start, walk_on, walk_end, walk_less}
+use Rattle.mesh.proofs.Laps.{Turns, turn_one, Lap, lap_of, Walking, walk_start, walk_on, walk_end}
 
 pub closed_held : (e : HalfEdges) → Closed (held e)
 closed_held e = closed_found (held e) e.closed
@@ -43,10 +43,6 @@ Follows e h r = (held e).alive (h / 3) ≡ true → Turn (held e) ((held e).corn
 abbrev pub Going : HalfEdges → ℕ → ℕ → ℕ → (ℕ → Type 0) → Type 0
 Going e v o h P = Walking (held e) (on e) v o h P
 
--- the steps from h that are left before o
-abbrev pub togo : HalfEdges → ℕ → ℕ → ℕ
-togo e o h = left (on e) o (length (vec_items e.twin)) h
-
 -- each entry of a ring is a half-edge at its vertex
 pub ring_tri : {S : Surface} {v : ℕ} {l : List ℕ} → Ring S v l → (i : ℕ) → i < length l → (a : ℕ) × (b : ℕ) × Tri S (get_or l i 0) v a b
 ring_tri {S} {v} {l} G i p = go (dec_lt (suc i) (length l))
@@ -67,7 +63,7 @@ module _ (e : HalfEdges) where
       distinct_count (λ _. true) F l (λ i p. let (x, y, s) = ring_tri G i p in live_within e (get_or l i 0) s.lives) (λ i p. refl) G.distinct in
       omega (arith, count_all F)
 
-  pub lap : {v o a b : ℕ} → Tri (held e) o v a b → (n : ℕ) × (n ≤ length (vec_items e.twin)) × Lap (held e) (on e) v o n
+  lap : {v o a b : ℕ} → Tri (held e) o v a b → (n : ℕ) × (n ≤ length (vec_items e.twin)) × Lap (held e) (on e) v o n
   lap {v} t =
       let R = closed_held e in
       let (l, G) = R.ring v (R.known _ _ _ _ t) in
@@ -85,12 +81,6 @@ module _ (e : HalfEdges) where
     onward {h} {r} W p s n =
         let q : on e h ≡ r = turned W.live.2 s in
         subst (λ x. Going e v o x P) q (walk_on (turns e) W p (λ i. n (sym q ∙ i)))
-
-    pub closer : {h r a b : ℕ} → Tri (held e) o v a b → Going e v o h P → Follows e h r → r ≢ o → togo e o r < togo e o h
-    closer {h} {r} t W s n =
-        let q : on e h ≡ r = turned W.live.2 s in
-        let (m, b, L) = lap t in
-        subst (λ x. togo e o x < togo e o h) q (walk_less L b W (λ i. n (sym q ∙ i)))
 
     pub around_all : {h r a b : ℕ} → Tri (held e) o v a b → Going e v o h P → P h → Follows e h r → r ≡ o → (g x y : ℕ) → Tri (held e) g v x y → P g
     around_all {h} {r} t W p s i =

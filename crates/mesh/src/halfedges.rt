@@ -4,6 +4,7 @@ ghost use Rattle.surface.specs.Closed.{Closed};
 ghost use Rattle.surface.specs.Read.{read};
 ghost use Rattle.mesh.specs.Held.{TwinsLive, OutLive};
 
+// Kept: functions of `edits`, `fold` and `link` ask `requires live`, since that a half-edge is live is a fact of its number and of the surface as it is just then.
 pub mod edits;
 mod fold;
 mod link;
@@ -12,7 +13,6 @@ pub mod reads;
 pub mod ring;
 mod turns;
 
-// Kept as a clause of each function: that a half-edge is live is a fact of its number and of the surface as it is just then.
 #[derive(Drop)]
 pub struct HalfEdges {
     // Kept as lists of their own: an edit rewrites one of them while it reads another, and each fact below is of one list.

@@ -1,17 +1,18 @@
 -- Vertices marked on a walk round a vertex.
-use Rattle.std.proofs.Common.{Bool, ◌≡◌, ℕ, ◌<◌, true, ◌≢◌, length, Some, None, sym, refl, ap, ◌∙◌, subst, inl, inr, arith}
-use Rattle.surface.specs.Surface.{next, Side}
+use Rattle.std.proofs.Common.{Bool, ◌≡◌, ℕ, ◌<◌, true, false, List, [], ◌∷◌, ◌++◌, length, map, sym, refl, ap, ◌∙◌, subst, inl, inr, arith}
+use Rattle.std.specs.List.{All}
+use Rattle.std.proofs.lemmas.List.Elements.{All-nil, All-push, All-weaker, All-contains}
+use Rattle.surface.specs.Surface.{next, Side, Tri}
+use Rattle.surface.specs.Ring.{Ring}
 use Rattle.surface.proofs.Tris.{spin}
 use Rattle.mesh.specs.Model.{held, surface}
-use Rattle.mesh.specs.Reads.{Outgoing}
 use Rattle.mesh.specs.declared.halfedges.HalfEdges.{HalfEdges}
 use Rattle.mesh.specs.declared.mesh.Mesh.{Mesh}
-use Rattle.mesh.proofs.Round.{closed_held, Follows, Going, togo, begin, onward, closer, around_all}
+use Rattle.mesh.proofs.Rings.{met_all}
 use Rattle.opened_surface.specs.Marks.{Marks, Marked, Wider}
 use Rattle.opened_surface.specs.Stale.{Covered, Grown, Sized, repriced, reopened}
 use Rattle.opened_surface.specs.declared.stale.Stale.{Stale}
 use Rattle.opened_surface.proofs.Ends.{corner_placed}
-use Rattle.opened_surface.proofs.Walked.{further}
 
 pub wider_same : (s : Marks) → Wider s s
 wider_same s = record { kept = λ x i. i; long = refl }
@@ -24,49 +25,28 @@ module _ (mesh : Mesh) (s : Marks) where
   abbrev Done : Marks → ℕ → Type 0
   Done t g = (surface mesh).corner (next g) < length s → Marked t ((surface mesh).corner (next g))
 
-  -- on the way round v from o, at h: the ends of the half-edges before h are members
-  pub record Ringing (v o h : ℕ) (t : Marks) : Type 0 where
-    pub going : Going mesh.edges v o h (Done t)
+  -- the ends of the half-edges of l are members
+  pub record Ringing (l : List ℕ) (t : Marks) : Type 0 where
+    pub met : All (Done t) l
     pub wider : Wider s t
 
-  module _ (e : HalfEdges) (same : e ≡ mesh.edges) (v o : ℕ) (O : Outgoing (held e) v (Some o)) where
-    begins : Outgoing (surface mesh) v (Some o)
-    begins = subst (λ x. Outgoing (held x) v (Some o)) same O
+  pub set_out : Ringing [] s
+  set_out = record { met = All-nil (Done s); wider = wider_same s }
 
-    pub set_out : Ringing v o o s
-    set_out = record { going = begin mesh.edges begins.2; wider = wider_same s }
+  module _ (e : HalfEdges) (same : e ≡ mesh.edges) {l : List ℕ} {t : Marks} where
+    pub step_on : Ringing l t → (h : ℕ) {y : ℕ} → y ≡ (held e).corner (next h) → {x : Marks} → Wider t x → (y < length t → Marked x y) → Ringing (l ++ h ∷ []) x
+    step_on W h i {x} G M =
+        let end_is = i ∙ ap (λ z. (held z).corner (next h)) same in
+        record {
+          met = All-push (Done x) l h (All-weaker (Done t) (Done x) (λ g d k. G.kept _ (d k)) l W.met) (λ k. subst (Marked x) end_is (M (let n = W.wider.long in omega arith)));
+          wider = wider_then s t x W.wider G;
+        }
 
-    module _ (h r : ℕ) (t : Marks) (W : Ringing v o h t) (F : Follows e h r) where
-      follows : Follows mesh.edges h r
-      follows = subst (λ x. Follows x h r) same F
-
-      pub nearer : r ≢ o → togo mesh.edges o r < togo mesh.edges o h
-      nearer n = closer mesh.edges begins.2 W.going follows n
-
-      module _ (y : ℕ) (is : y ≡ (held e).corner (next h)) (x : Marks) (G : Wider t x) (M : y < length t → Marked x y) where
-        more : Wider s x
-        more = wider_then s t x W.wider G
-
-        gone : Going mesh.edges v o h (Done x)
-        gone = further (λ g d l. G.kept _ (d l)) W.going
-
-        end_is : y ≡ (surface mesh).corner (next h)
-        end_is = is ∙ ap (λ z. (held z).corner (next h)) same
-
-        here : Done x h
-        here l = subst (Marked x) end_is (M (let n = W.wider.long in let i = end_is in omega arith))
-
-        pub step_on : r ≢ o → Ringing v o r x
-        step_on n = record { going = onward mesh.edges gone here follows n; wider = more }
-
-        pub come_round : r ≡ o → (z : ℕ) → Side (surface mesh) v z → z < length s → Marked x z
-        come_round i z (g, c, b) l =
-            let D = around_all mesh.edges begins.2 gone here follows i in
-            subst (Marked x) b.to (D g z c b (let j = b.to in omega arith))
-
--- there is no side at a vertex that is not live
-pub none_round : (mesh : Mesh) (e : HalfEdges) → e ≡ mesh.edges → (v : ℕ) → Outgoing (held e) v None → (z : ℕ) → Side (surface mesh) v z → ⊥
-none_round mesh e same v O z (g, c, b) = subst (λ x. Outgoing (held x) v None) same O ((closed_held mesh.edges).known _ _ _ _ b)
+    module _ {v : ℕ} {all : List ℕ} (round : (held e).present v ≡ true → Ring (held e) v all) (none : (held e).present v ≡ false → all ≡ []) where
+      pub come_round : map (λ h. h) l ≡ all → Ringing l t → (z : ℕ) → Side (surface mesh) v z → z < length s → Marked t z
+      come_round i W z (g, c, b) k =
+          let at_v = subst (λ y. Tri (held y) g v z c) (sym same) b in
+          subst (Marked t) b.to (All-contains (Done t) l g W.met (met_all e round none l i g z c at_v) (let j = b.to in omega arith))
 
 -- what a collapse asks for is marked: u, w, and the ring of u
 module _ (blind : Bool) (mesh : Mesh) (u w : ℕ) (a t : Stale) (b d : Marks)

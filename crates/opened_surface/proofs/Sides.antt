@@ -24,7 +24,3 @@ touching S C x k (l, inr i) =
     let t : Tri S k (S.corner k) x (S.corner (next (next k))) = moved refl i refl (tri_at S k l) in
     let (g, c, s) = C.matched _ _ _ _ t in
     (g, _, c, s, inr (tri_opposite S s t))
-
--- no half-edge touches a vertex that is not live
-pub untouched : (S : Surface) → Closed S → (x k : ℕ) → (S.present x ≡ true → ⊥) → Touches S x k → ⊥
-untouched S C x k n q = let (g, a, b, t, p) = touching S C x k q in n (C.known _ _ _ _ t)

@@ -20,6 +20,7 @@ pub(crate) fn key_of<G: TellingGauge>(mesh: &Mesh, gauge: &G, h: u16) -> Option<
     Some(Key { cost, u, w })
 }
 
+// Kept: `ONLY_MISSING` makes one function of both ways of mending, and which of them runs is chosen at compile time.
 /// Gives the half-edge `h` its key, or takes its key away. Where only missing keys are to be given, one that is there stays.
 pub(crate) fn refresh<G: TellingGauge, const ONLY_MISSING: bool>(
     mesh: &Mesh,

@@ -1,5 +1,5 @@
 //! Keys that are made right again where the surface or the account has changed.
-// Kept: mesh, gauge and queue are lent apart; as methods of `Thinning` each function would promise besides that all but the queue stays.
+// Kept: mesh and gauge are lent shared and the queue by `&mut`; as methods each would also have to promise that mesh, gauge and stale stay.
 ghost use Rattle.std.specs.Prelude.{◌≡◌, ℕ, ◌*◌, ◌/◌, ◌<◌, ◌≤◌, length, vec_len};
 ghost use Rattle.mesh.specs.Model.{surface as surface_of};
 ghost use Rattle.queue.specs.Meaning.{keys_of};
@@ -44,17 +44,9 @@ pub(crate) fn mend_vertex<G: TellingGauge, const ONLY_MISSING: bool>(
     ensures mended { Accounted G.Gauge mesh.now gauge.now × Fit G.Gauge mesh.now gauge.now ONLY_MISSING (keys_of queue.old) → MendedNow G.Gauge mesh.now gauge.now (Touches (surface_of mesh.now) x) (keys_of queue.old) (keys_of queue.new) }
 {
     let edges = mesh.edges();
-    let Some(first) = edges.outgoing(x) else {
-        return;
-    };
-    let mut h = first;
-    loop {
+    for h in edges.ring(x) {
         refresh::<G, ONLY_MISSING>(mesh, gauge, queue, h);
         refresh::<G, ONLY_MISSING>(mesh, gauge, queue, edges.twin(h));
-        h = edges.around(h);
-        if h == first {
-            return;
-        }
     }
 }
 

@@ -10,6 +10,7 @@ mod moving;
 mod stepping;
 
 /// A mesh, the gauge that has its account, and for each half-edge the key of its collapse in a queue.
+// Kept: that it is tied is a premise of each method's promise, not an invariant, since `perform`, `join` and `clear` untie it on the way.
 #[derive(Drop)]
 pub(crate) struct Thinning<G: Gauge> {
     pub(crate) mesh: Mesh,

@@ -6,6 +6,7 @@ ghost use Rattle.std.specs.Prelude.{◌≤◌, ◌⊎◌, Decides};
 ghost use Rattle.std.proofs.Common.{rules};
 
 /// Values that are ranked by an order, total and transitive.
+// Kept: costs may rank equal and differ, so `Ord`, by which what ranks equal is equal, would be false of them.
 pub trait Ordered {
     /// The first ranks at most as high as the second.
     ghost atmost: { Self → Self → Type 0 };

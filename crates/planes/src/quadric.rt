@@ -21,6 +21,7 @@ pub struct Quadric {
     pub one: u64,
 }
 
+// Kept: sum and difference are ten fields each; one function for both would take the operation.
 /// Modulo 2^64.
 impl Add for Quadric {
     type Output = Quadric;
@@ -86,7 +87,7 @@ pub fn quadric_of(p: Position, q: Position, r: Position) -> Quadric
     let y = n.y.cast_unsigned();
     let z = n.z.cast_unsigned();
     let offset = affine(x, y, z, 0, p);
-    square_of(x, y, z, 0u64.wrapping_sub(offset))
+    square_of(x, y, z, offset.wrapping_neg())
 }
 
 /// The square of a x + b y + c z + d.

@@ -9,6 +9,7 @@ use std::alloc::{AllocError, Global};
 /// For each candidate number its key, if it has one. The candidates with a key sit on the first `count`
 /// seats, which are a binary heap where they are sound: each seat but the first has a seat above it whose key
 /// is not after its own. So one key more or less moves few candidates.
+// Kept: `count` is no length of a list beside it: `keys` and `seating` run over all candidates, also over those with no key.
 #[derive(Drop)]
 pub struct Heap<C> {
     pub(crate) keys: Vec<Option<Key<C>>>,

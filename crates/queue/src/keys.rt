@@ -12,6 +12,7 @@ pub struct Key<C> {
     pub w: u16,
 }
 
+// Kept: costs may rank equal and differ, so an `Ord` of keys, which is equal just where the keys are, would be false.
 /// Whether `a` comes strictly before `b`.
 pub fn before<C: Ordered>(a: &Key<C>, b: &Key<C>) -> bool
     ensures { MatchBool result (Before C.Ordered a.now b.now) (NotAfter C.Ordered b.now a.now) }

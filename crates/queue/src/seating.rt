@@ -6,6 +6,7 @@ ghost use Rattle.queue.specs.Seating.{Inverse};
 use std::alloc::{AllocError, Global};
 
 /// `number` has the number on each seat, and `seat` the seat of each number.
+// Kept: the two lists are inverse of each other, not parallel, so that the seat of a number is found without a search.
 #[derive(Drop)]
 pub struct Seating {
     number: Vec<u16>,

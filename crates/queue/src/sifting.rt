@@ -14,6 +14,7 @@ fn left_under(seat: usize) -> usize
     2 * seat + 1
 }
 
+// Kept: that a seat is below `count` is a fact of a number and of the heap as it is just then, so each function asks it.
 impl<C: Ordered + Copy> Heap<C> {
     /// Whether the key on seat `a` comes before the one on seat `b`.
     fn precedes(&self, a: usize, b: usize) -> bool
@@ -69,6 +70,7 @@ impl<C: Ordered + Copy> Heap<C> {
         self.seating.exchange(a, b);
     }
 
+    // Kept: `sift_up` and `sift_down` keep the order of other seats; one function would take the step as a closure, and its invariant too.
     /// Brings a candidate that can only be too low up from the seat `start` to where it belongs.
     fn sift_up(&mut self, start: usize)
         requires within { start < self.old.count }

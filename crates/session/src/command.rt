@@ -25,6 +25,7 @@ pub enum Command<'a> {
 }
 
 /// Why no command is read.
+// Kept: reading finds two of the ten refusals, so by `Refusal` its clauses would deny the eight others, and the end of the input is none of them.
 #[derive(Clone, Copy)]
 pub enum Fault {
     /// The input is over.

@@ -1,6 +1,6 @@
 //! The surface while it is being gathered.
 ghost use Rattle.std.specs.Prelude.{IfOk};
-ghost use Rattle.session.specs.Back.{BackWith};
+ghost use Rattle.session.specs.Back.{BackWith, OpenedOn};
 ghost use Rattle.session.specs.Gauges.{gauge_number};
 ghost use Rattle.session.specs.Held.{held, held_draft};
 ghost use Rattle.session.specs.Replies.{Replied};
@@ -43,6 +43,7 @@ impl Draft {
         Ok(Reply::Named(name))
     }
 
+    /// Takes a vertex at these coordinates, or refuses it.
     pub fn vertex<'a>(&mut self, x: u16, y: u16, z: u16) -> Result<Reply<'a>, Refusal>
         ensures replied { Replied (held_draft self.old) (Vertex x y z) result (held_draft self.new) }
     {
@@ -50,6 +51,7 @@ impl Draft {
         Ok(Reply::Nothing)
     }
 
+    /// Takes a triangle of these corners, or refuses it.
     pub fn triangle<'a>(&mut self, a: u16, b: u16, c: u16) -> Result<Reply<'a>, Refusal>
         ensures replied { Replied (held_draft self.old) (Triangle a b c) result (held_draft self.new) }
     {
@@ -72,7 +74,7 @@ impl Draft {
         }
     }
 
-    // Kept: one body for both gauges needs a bound that puts an opened surface into `Hull`, with its clauses, and is longer than the two.
+    // Kept: one body for both gauges needs `Hull` to be `From` any opened surface, with a law on its gauge and its mesh, and is longer than the two.
     fn open_on_planes<'a>(
         self,
         heap: Global,
@@ -82,13 +84,7 @@ impl Draft {
         let Draft { gathering, named } = self;
         let gauge = Planes::new(heap, PLANES_ENTRIES)?;
         match open(heap, gathering, gauge) {
-            Ok(opened) => {
-                let counts = opened.counts();
-                Ok((
-                    State::Opened(Hull::Planes(opened)),
-                    Ok(Reply::Opened(counts)),
-                ))
-            }
+            Ok(opened) => Ok(opened_on(Hull::Planes(opened))),
             Err(unopened) => not_opened(unopened, named),
         }
     }
@@ -101,16 +97,18 @@ impl Draft {
     {
         let Draft { gathering, named } = self;
         match open(heap, gathering, Sweep::new()) {
-            Ok(opened) => {
-                let counts = opened.counts();
-                Ok((
-                    State::Opened(Hull::Sweep(opened)),
-                    Ok(Reply::Opened(counts)),
-                ))
-            }
+            Ok(opened) => Ok(opened_on(Hull::Sweep(opened))),
             Err(unopened) => not_opened(unopened, named),
         }
     }
+}
+
+/// The opened surface, and the reply with its counts.
+fn opened_on<'a>(hull: Hull) -> (State, Result<Reply<'a>, Refusal>)
+    ensures opened { OpenedOn hull result.0 result.1 }
+{
+    let counts = hull.counts();
+    (State::Opened(hull), Ok(Reply::Opened(counts)))
 }
 
 /// The draft as it was, with the refusal, or want of memory.

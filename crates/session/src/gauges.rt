@@ -3,6 +3,7 @@ ghost use Rattle.session.specs.Gauges.{Numbered};
 
 use crate::refusal::Refusal;
 
+/// What a collapse costs by: the planes of the triangles, or the volume that it sweeps.
 #[derive(Clone, Copy)]
 pub enum Gauge {
     Planes,

@@ -17,6 +17,7 @@ use opened_surface::opened::Opened;
 use planes::planes::Planes;
 use sweep::Sweep;
 
+/// An opened surface: what the session works on, by the gauge of its costs.
 #[derive(Drop)]
 pub enum Hull {
     Planes(Opened<Planes>),

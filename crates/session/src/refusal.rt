@@ -35,6 +35,7 @@ pub enum Refusal {
 }
 
 impl Refusal {
+    /// The number that the line of the refusal gives.
     pub fn number(self) -> u8
         ensures value { result ≡ number_of self }
     {
@@ -89,10 +90,6 @@ impl From<CollapseRefusal> for Refusal {
     ghost from_gives = { λ why r. r ≡ call_refused (refusal_of why) };
 
     fn from(why: CollapseRefusal) -> Refusal {
-        Refusal::Call(match why {
-            CollapseRefusal::NoSide => call::Refusal::NoSide,
-            CollapseRefusal::NotClosed => call::Refusal::NotClosed,
-            CollapseRefusal::Folds => call::Refusal::Folds,
-        })
+        Refusal::Call(why.into())
     }
 }

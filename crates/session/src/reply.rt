@@ -8,7 +8,7 @@ use crate::lines;
 use crate::refusal::Refusal;
 use crate::state::State;
 use judging::verdict::Counts;
-use std::alloc::{AllocError, Global};
+use std::alloc::AllocError;
 
 /// A collapse of `u` to `w`, and the figures of what it cost.
 #[derive(Clone, Copy)]
@@ -19,6 +19,7 @@ pub struct Priced {
     pub divisor: u64,
 }
 
+/// What an obeyed command is answered.
 #[derive(Clone, Copy)]
 pub enum Reply<'a> {
     /// The command is obeyed, and nothing is said.
@@ -42,27 +43,26 @@ pub enum Reply<'a> {
 
 impl Reply<'_> {
     /// Writes the lines of the reply, after which the session is in this state.
-    fn write(self, heap: Global, state: &State, out: &mut Vec<u8>) -> Result<(), AllocError>
+    fn write(self, state: &State, out: &mut Vec<u8>) -> Result<(), AllocError>
         ensures written { OnOk result (out.new.items ≡ out.old.items ++ texts (reply_lines (held state.now) self.entry)) }
     {
         match self {
             Reply::Nothing => Ok(()),
             Reply::Named(name) => lines::write_name(out, name),
-            Reply::Opened(counts) => lines::write_counts(heap, out, "open", counts),
-            Reply::Collapsed(priced) => lines::write_priced(heap, out, "collapse", priced),
-            Reply::Stepped(priced) => lines::write_priced(heap, out, "step", priced),
-            Reply::Split(position) => lines::write_position(heap, out, "split", position),
-            Reply::Redone(position) => lines::write_position(heap, out, "redo", position),
-            Reply::Went(position) => lines::write_position(heap, out, "go", position),
-            Reply::Triangles => state.write_triangles(heap, out),
-            Reply::Ended(counts) => lines::write_counts(heap, out, "end", counts),
+            Reply::Opened(counts) => lines::write_counts(out, "open", counts),
+            Reply::Collapsed(priced) => lines::write_priced(out, "collapse", priced),
+            Reply::Stepped(priced) => lines::write_priced(out, "step", priced),
+            Reply::Split(position) => lines::write_position(out, "split", position),
+            Reply::Redone(position) => lines::write_position(out, "redo", position),
+            Reply::Went(position) => lines::write_position(out, "go", position),
+            Reply::Triangles => state.write_triangles(out),
+            Reply::Ended(counts) => lines::write_counts(out, "end", counts),
         }
     }
 }
 
 /// Writes the lines of the answer to the command at `at`, after which the session is in this state.
 pub fn write_answer(
-    heap: Global,
     out: &mut Vec<u8>,
     answer: Result<Reply<'_>, Refusal>,
     state: &State,
@@ -71,7 +71,7 @@ pub fn write_answer(
     ensures written { OnOk result (out.new.items ≡ out.old.items ++ texts (lines_of at (held state.now) answer.entry)) }
 {
     match answer {
-        Ok(reply) => reply.write(heap, state, out),
-        Err(refusal) => lines::write_refused(heap, out, refusal, at),
+        Ok(reply) => reply.write(state, out),
+        Err(refusal) => lines::write_refused(out, refusal, at),
     }
 }

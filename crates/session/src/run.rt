@@ -21,31 +21,28 @@ pub fn run<const CALLS: bool>(heap: Global, input: &[u8]) -> Result<Vec<u8>, All
 {
     let mut out = Vec::new(heap);
     if input.len() > MOST_BYTES {
-        write_refused(heap, &mut out, Refusal::TooLong, 0)?;
+        write_refused(&mut out, Refusal::TooLong, 0)?;
         return Ok(out);
     }
-    answer::<CALLS>(heap, input, &mut out)?;
+    answer::<CALLS>(input, &mut out)?;
     Ok(out)
 }
 
 // Answers each command, until the session stops or the input is over.
-fn answer<const CALLS: bool>(
-    heap: Global,
-    input: &[u8],
-    out: &mut Vec<u8>,
-) -> Result<(), AllocError>
+fn answer<const CALLS: bool>(input: &[u8], out: &mut Vec<u8>) -> Result<(), AllocError>
     ensures answered { OnOk result ((ls : List Line) × Session CALLS 0 input.now empty ls × (out.new.items ≡ out.old.items ++ texts ls)) }
 {
+    let heap = *out.allocator();
     let mut state = State::new(heap)?;
     let mut rest = input;
     loop {
         let at = input.len() - rest.len();
         let (command, after) = match Command::read::<CALLS>(rest) {
             Ok(read) => read,
-            Err(fault) => return write_fault(heap, out, fault, at),
+            Err(fault) => return write_fault(out, fault, at),
         };
         let (next, answer) = state.obey(heap, command)?;
-        write_answer(heap, out, answer, &next, at)?;
+        write_answer(out, answer, &next, at)?;
         if command.stops() {
             return Ok(());
         }

@@ -22,14 +22,6 @@ pub enum State {
     Opened(Hull),
 }
 
-/// The counts before a surface is opened.
-const NO_COUNTS: Counts = Counts {
-    vertices: 0,
-    triangles: 0,
-    euler: 0,
-    pieces: 0,
-};
-
 impl State {
     /// A gathering with no name and nothing in it.
     pub fn new(heap: Global) -> Result<State, AllocError>
@@ -43,12 +35,12 @@ impl State {
     }
 
     /// Writes a line for each live triangle of the opened surface.
-    pub fn write_triangles(&self, heap: Global, out: &mut Vec<u8>) -> Result<(), AllocError>
+    pub fn write_triangles(&self, out: &mut Vec<u8>) -> Result<(), AllocError>
         ensures written { OnOk result (out.new.items ≡ out.old.items ++ texts (held_lines (held self.now))) }
     {
         match self {
             State::Gathering(_) => Ok(()),
-            State::Opened(hull) => lines::write_triangles(heap, out, hull.edges()),
+            State::Opened(hull) => lines::write_triangles(out, hull.edges()),
         }
     }
 
@@ -67,7 +59,7 @@ impl State {
                     Command::Vertex(x, y, z) => draft.vertex(x, y, z),
                     Command::Triangle(a, b, c) => draft.triangle(a, b, c),
                     Command::Open(gauge) => return draft.open(heap, gauge),
-                    Command::End => Ok(Reply::Ended(NO_COUNTS)),
+                    Command::End => Ok(Reply::Ended(Counts::default())),
                     _ => Err(Refusal::OtherState),
                 };
                 Ok((State::Gathering(draft), answer))
@@ -77,7 +69,7 @@ impl State {
                     Command::Call(call) => hull.call(call),
                     Command::Write => Ok(Reply::Triangles),
                     Command::End => Ok(Reply::Ended(hull.counts())),
-                    _ => Err(Refusal::OtherState), // Gathering is over.
+                    _ => Err(Refusal::OtherState), // Nothing is gathered once a surface is opened.
                 };
                 Ok((State::Opened(hull), answer))
             }

@@ -1,7 +1,7 @@
 //! A gauge by volume: a collapse costs the volume that it sweeps, over the number of triangles that it moves.
 #![tactic(auto)]
 
-ghost use Rattle.std.specs.Prelude.{◌≡◌, ◌≤◌, false, [], replicate, Decides};
+ghost use Rattle.std.specs.Prelude.{◌≡◌, false, [], replicate};
 ghost use Rattle.std.proofs.lemmas.List.{length-replicate};
 ghost use Rattle.sweep.specs.Entries.{entries};
 ghost use Rattle.sweep.specs.Exact.{ExactFraction};
@@ -39,13 +39,6 @@ impl Sweep {
 pub fn exact_fraction_law()
     ensures stands { ExactFraction }
 {}
-
-/// Whether a surface with so many vertices can be opened.
-fn takes(vertices: usize) -> bool
-    ensures decides { Decides result (vertices ≤ 1024) }
-{
-    vertices <= CAPACITY
-}
 
 impl Gauge for Sweep {
     type Cost = Fraction;
@@ -86,7 +79,7 @@ impl Gauge for Sweep {
 
     fn open(&mut self, mesh: &Mesh) -> Result<(), TooManyVertices> {
         let vertices = mesh.positions().len();
-        if !takes(vertices) {
+        if vertices > CAPACITY {
             return Err(TooManyVertices);
         }
         self.count = vertices;

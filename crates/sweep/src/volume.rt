@@ -3,7 +3,7 @@ ghost use Rattle.std.specs.Prelude.{◌≡◌, pos, ◌-ℤ◌, ◌*ℤ◌};
 ghost use Rattle.surface.specs.Geometry.{six_volume};
 ghost use Rattle.geometry.specs.Values.{Bounded, vector_of};
 
-use geometry::{Position, normal_of};
+use geometry::{Position, difference, normal_of};
 
 /// Six times the volume of the triangle `p`, `q`, `r` with the point `top`, above zero on the side of its normal.
 pub fn six_volume(p: Position, q: Position, r: Position, top: Position) -> i64
@@ -20,5 +20,5 @@ fn along(n: i64, a: u8, b: u8) -> i64
     ensures value { result ≡ n *ℤ (pos b -ℤ pos a) }
     ensures bound { Bounded 33162750 result }
 {
-    n * (i64::from(b) - i64::from(a))
+    n * difference(b, a)
 }

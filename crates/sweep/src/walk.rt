@@ -21,16 +21,12 @@ pub(crate) fn swept(edges: &HalfEdges, positions: &[Position], e: u16) -> (u64, 
     let w = edges.end(e);
     let mut volume = 0;
     let mut number = 0;
-    let mut h = e;
-    loop {
+    for h in edges.ring(edges.start(e)) {
         let (size, one) = share(edges, positions, h, w);
         volume += size;
         number += one;
-        h = edges.around(h);
-        if h == e {
-            return (volume, number);
-        }
     }
+    (volume, number)
 }
 
 /// What the triangle of `h` adds to the volume and to the number: the size of its six-volume at the point of `w`, and one;

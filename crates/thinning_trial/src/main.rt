@@ -201,18 +201,12 @@ fn show_triangle(rt: &HostRuntime, corners: [u16; 3]) -> io::Result<()> {
     println!(rt; "triangle {a} {b} {c}")
 }
 
-/// Prints the first points and the first triangles of two lists.
-fn show_drawn(
-    rt: &HostRuntime,
-    points: &[Point],
-    vertex_count: usize,
-    triangles: &[[u16; 3]],
-    triangle_count: usize,
-) -> io::Result<()> {
-    for point in points.iter().take(vertex_count) {
+/// Prints the points and the triangles of two lists.
+fn show_drawn(rt: &HostRuntime, points: &[Point], triangles: &[[u16; 3]]) -> io::Result<()> {
+    for point in points {
         show_point(rt, *point)?;
     }
-    for corners in triangles.iter().take(triangle_count) {
+    for corners in triangles {
         show_triangle(rt, *corners)?;
     }
     Ok(())
@@ -220,19 +214,14 @@ fn show_drawn(
 
 /// Draws the surface into lists that are too short and into lists that are long enough.
 fn try_drawing<G: TellingGauge>(rt: &HostRuntime, opened: &Opened<G>) -> anyhow::Result<()> {
-    let origin = Point {
-        x: 0.0,
-        y: 0.0,
-        z: 0.0,
-    };
-    let mut few_points = [origin; 3];
-    let mut points = [origin; 6];
+    let mut few_points = [Point::default(); 3];
+    let mut points = [Point::default(); 6];
     let mut triangles = [[0; 3]; 8];
     if let Err(refusal) = opened.draw(&mut few_points, &mut triangles) {
         show_refused(rt, refusal.number())?;
     }
     if let Ok((vertex_count, triangle_count)) = opened.draw(&mut points, &mut triangles) {
-        show_drawn(rt, &points, vertex_count, &triangles, triangle_count)?;
+        show_drawn(rt, &points[..vertex_count], &triangles[..triangle_count])?;
     }
     Ok(())
 }

@@ -1,6 +1,6 @@
 //! The calls on a gathering.
-ghost use Rattle.std.specs.Prelude.{◌≡◌, [], length, IfOk};
-ghost use Rattle.gathering.specs.Model.{positions as positions_of, corners as corners_of, triangle_count};
+ghost use Rattle.std.specs.Prelude.{◌≡◌, [], IfOk};
+ghost use Rattle.gathering.specs.Model.{positions as positions_of, corners as corners_of};
 ghost use Rattle.gathering.specs.Gathered.{AddedVertex, AddedTriangle};
 
 use super::Gathering;
@@ -30,6 +30,7 @@ impl Gathering {
         if self.positions.len() >= Self::MOST_VERTICES {
             return Err(VertexRefusal::TooManyVertices);
         }
+        // Kept: the three coordinates have one refusal between them; a u8::try_from of each would map its own error to that one.
         if x > 255 || y > 255 || z > 255 {
             return Err(VertexRefusal::CoordinateAbove255);
         }

@@ -5,6 +5,7 @@ ghost use Rattle.gathering.specs.Limits.{Numbered};
 ghost use Rattle.judging.specs.Chains.{Chained};
 
 /// The next half-edge of the same triangle.
+// Kept: it steps twice from an index to the half-edge before, so it takes a usize; the mesh's own takes a u16, and so asks for no limit.
 pub(super) fn following(h: usize) -> usize
     requires small { h < 6144 }
     ensures value { result ≡ next h }

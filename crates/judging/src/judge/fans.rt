@@ -11,12 +11,13 @@ use std::alloc::{AllocError, Global};
 
 /// The half-edges of a surface by the vertex at which they begin.
 #[derive(Drop)]
-pub(super) struct Fans<'a> {
-    pub(super) corners: &'a [u16],
+pub(crate) struct Fans<'a> {
+    pub(crate) corners: &'a [u16],
+    // Kept: a list of half-edges for each vertex would be a block of memory for each; these two lists are one chain for each vertex.
     // by vertex: the last half-edge that begins there
-    pub(super) last: Vec<Option<u16>>,
+    pub(crate) last: Vec<Option<u16>>,
     // by half-edge: the last one below it that begins at the same vertex
-    pub(super) link: Vec<Option<u16>>,
+    pub(crate) link: Vec<Option<u16>>,
     ghost few: { length corners.now ≤ 6144 },
     ghost few_vertices: { vec_len last ≤ 1024 },
     ghost threes: { length corners.now % 3 ≡ 0 },
@@ -26,7 +27,7 @@ pub(super) struct Fans<'a> {
 
 impl<'a> Fans<'a> {
     /// The half-edges of a surface with `n` vertices.
-    pub(super) fn new(heap: Global, corners: &'a [u16], n: usize) -> Result<Fans<'a>, AllocError>
+    pub(crate) fn new(heap: Global, corners: &'a [u16], n: usize) -> Result<Fans<'a>, AllocError>
         requires numbered { Numbered corners.now n }
         requires few { length corners.now ≤ 6144 }
         requires few_vertices { n ≤ 1024 }

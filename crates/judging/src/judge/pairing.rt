@@ -9,17 +9,18 @@ use std::alloc::{AllocError, Global};
 
 /// The half-edges by the ordered pair along which they lead.
 #[derive(Drop)]
-pub(super) struct Pairs<'a> {
-    pub(super) fans: Fans<'a>,
+pub(crate) struct Pairs<'a> {
+    pub(crate) fans: Fans<'a>,
+    // Kept: each is read alone, the first for sides that come twice, the twin to become the table of the answer.
     // by half-edge: the lowest one of the same pair, and the lowest one of the pair turned round
-    pub(super) first: Vec<Option<u16>>,
-    pub(super) twin: Vec<Option<u16>>,
+    pub(crate) first: Vec<Option<u16>>,
+    pub(crate) twin: Vec<Option<u16>>,
     ghost paired: { Paired fans.corners.now first.items twin.items } by { paired_prop _ _ _ },
 }
 
 impl<'a> Pairs<'a> {
     /// Pairs the half-edges.
-    pub(super) fn new(heap: Global, fans: Fans<'a>) -> Result<Pairs<'a>, AllocError>
+    pub(crate) fn new(heap: Global, fans: Fans<'a>) -> Result<Pairs<'a>, AllocError>
         ensures fans { IfOk result (λ p. p.fans ≡ fans.entry) }
     {
         let mut marks = vec![in heap; None; fans.last.len()]?;
@@ -31,7 +32,7 @@ impl<'a> Pairs<'a> {
 }
 
 /// The entries of a table that has no empty one.
-pub(super) fn entries_of(heap: Global, table: &[Option<u16>]) -> Result<Vec<u16>, AllocError>
+pub(crate) fn entries_of(heap: Global, table: &[Option<u16>]) -> Result<Vec<u16>, AllocError>
     requires full { (k : ℕ) → k < length table.now → is_some (slice_index_or table.now k None) ≡ true }
     ensures entries { IfOk result (λ v. Entries table.now v.items) }
 {

@@ -10,12 +10,13 @@ use std::alloc::{AllocError, Global};
 
 impl<'a> Fans<'a> {
     /// How many pieces the triangles and vertices form.
-    pub(super) fn count_pieces(&self, heap: Global) -> Result<u16, AllocError>
+    pub(crate) fn count_pieces(&self, heap: Global) -> Result<u16, AllocError>
         ensures pieces { IfOk result (λ k. Pieces (whole self.now.corners.now (vec_len self.now.last)) k) }
     {
         let mut seen = vec![in heap; false; self.last.len()]?;
         let mut waiting = Vec::with_capacity(heap, self.last.len())?;
         let mut pieces = 0;
+        // Kept: filter and count would change seen in a closure, and a proof learns nothing of what such a closure changed.
         for v in 0..self.last.len() {
             if !seen[v] {
                 self.flood(v, &mut seen, &mut waiting);

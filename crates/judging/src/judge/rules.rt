@@ -22,6 +22,7 @@ impl<'a> Pairs<'a> {
     pub(super) fn first_twice(&self) -> Option<u16>
         ensures lowest { (n : ℕ) → FirstTwice (whole self.now.fans.corners.now n) result }
     {
+        // Kept: over enumerate, filter_map and min the proof did not close, for it wants the least of the entries that are not passed over.
         let mut lowest = self.first.len();
         for (h, entry) in self.first.iter().enumerate() {
             lowest = lower(lowest, h, *entry);

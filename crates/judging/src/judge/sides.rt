@@ -5,6 +5,7 @@ ghost use Rattle.judging.specs.Sides.{LowestSide, Marks, MarkedAt, BeginsBelow, 
 use super::chains::following;
 use super::fans::Fans;
 
+// Kept: a struct of the marks and their length would be taken apart in each of the steps that share them.
 impl<'a> Fans<'a> {
     /// Marks each vertex to which a half-edge leads from `u` by the lowest such half-edge.
     fn mark_ends(&self, u: usize, marks: &mut [Option<u16>])
@@ -25,12 +26,7 @@ impl<'a> Fans<'a> {
         requires vertex { x < length marks.now }
         ensures lowest { LowestSide self.now.corners.now u x result }
     {
-        if let Some(g) = marks[x] {
-            if self.corners[g as usize] as usize == u {
-                return Some(g);
-            }
-        }
-        None
+        marks[x].filter(|g| usize::from(self.corners[usize::from(*g)]) == u)
     }
 
     /// Fills in the entries of the half-edges that begin at `u`, and of those that end there.

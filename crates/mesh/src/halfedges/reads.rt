@@ -89,6 +89,7 @@ impl HalfEdges {
 }
 
 /// The entry at place `i`, 0 past the end.
+// Kept: reads are total, and the definitions read 0 past the end too.
 fn entry(list: &[u16], i: usize) -> u16
     ensures value { result ≡ slice_index list.now i }
 {

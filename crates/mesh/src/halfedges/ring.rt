@@ -45,6 +45,7 @@ impl HalfEdges {
         let ahead = self.outgoing(v);
         Ring {
             edges: self,
+            // Kept: a ring of none has no first half-edge, and the number is not read.
             first: ahead.unwrap_or(0),
             ahead,
         }

@@ -55,6 +55,7 @@ fn prepare(heap: Global, gathering: &Gathering) -> Result<Prepared, Unjudged>
 pub fn open(heap: Global, gathering: Gathering) -> Result<Opening, Refused>
     ensures outcome { Opens gathering result }
 {
+    // Kept: a `?` would drop the gathering, which is handed back.
     match prepare(heap, &gathering) {
         Ok(Prepared { counts, edges, log }) => {
             let (positions, opened) = gathering.into_parts();

@@ -8,6 +8,7 @@ use crate::mending::fill;
 use crate::stale::Stale;
 use crate::thinning::Thinning;
 use gathering::gathering::Gathering;
+use gauge::TooManyVertices;
 use gauge::telling::TellingGauge;
 use judging::judge::judge;
 use judging::verdict::{Flaw, Unjudged};
@@ -32,11 +33,12 @@ impl OpenRefusal {
     {
         match self {
             OpenRefusal::Flawed(flaw) => flaw.number(),
-            OpenRefusal::TooManyVertices => 12,
+            OpenRefusal::TooManyVertices => TooManyVertices.number(),
         }
     }
 
     /// The lowest triangle or vertex concerned, 0 where there is none.
+    // Kept: docs/REFUSALS.md gives each refusal on opening a place, and 0 to the one that concerns none.
     pub fn place(self) -> u16
         ensures value { result ≡ open_place self }
     {

@@ -29,16 +29,8 @@ fn mark_ring(mesh: &Mesh, set: &mut Queue<u64>, u: u16)
     ensures round { (x : ℕ) → Side (surface_of mesh.now) u x → x < length (keys_of set.old) → Marked (keys_of set.new) x }
 {
     let edges = mesh.edges();
-    let Some(first) = edges.outgoing(u) else {
-        return;
-    };
-    let mut h = first;
-    loop {
+    for h in edges.ring(u) {
         mark_in(set, edges.end(h));
-        h = edges.around(h);
-        if h == first {
-            return;
-        }
     }
 }
 

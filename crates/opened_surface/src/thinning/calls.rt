@@ -29,10 +29,8 @@ impl<G: TellingGauge> Thinning<G> {
     fn make(&mut self, call: &Call) -> Answer<G::Cost>
         ensures follows { Tied G.Gauge G.Cost.Ordered self.old → Follows G.Gauge G.Cost.Ordered self.old call.now result self.new }
     {
-        match self.outcome(call) {
-            Ok(answer) => answer,
-            Err(refusal) => Answer::Refused(refusal),
-        }
+        self.outcome(call)
+            .unwrap_or_else(|refusal| Answer::Refused(refusal))
     }
 
     /// Makes the calls in turn, and puts their answers into a list that has room for them.

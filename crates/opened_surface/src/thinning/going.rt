@@ -8,6 +8,7 @@ ghost use Rattle.opened_surface.specs.Tied.{Follows, Placed, Tied};
 use super::Thinning;
 use gauge::telling::TellingGauge;
 
+// Kept: `go_back` and `go_on` differ in the move and in what each promises, and each is one loop of one line.
 impl<G: TellingGauge> Thinning<G> {
     /// Takes the last `count` collapses back.
     fn go_back(&mut self, count: usize)

@@ -53,6 +53,7 @@ impl<G: TellingGauge> Thinning<G> {
     {
         self.clear();
         let Key { u, w, .. } = first_permitted::<G>(&self.mesh, &mut self.queue)?;
+        // Kept: the cost is the one that `perform` answers; that the key found has the same is not promised by `first_permitted`.
         let cost = self.perform(u, w).ok()?;
         Some(Key { cost, u, w })
     }

@@ -152,6 +152,7 @@ fn add(table: &mut [Quadric], v: u16, q: Quadric)
     }
 }
 
+// Kept: a vertex that there is not reads as the origin, as the definitions have it.
 /// Where the vertex `v` lies; the origin, if there is no such vertex.
 fn position_of(mesh: &Mesh, v: u16) -> Position
     ensures point { vector_of result ≡ points_of mesh.now v }

@@ -7,11 +7,6 @@ use Rattle.judging.specs.Verdict.{FirstFlaw}
 use Rattle.judging.specs.declared.verdict.Flaw.{Flaw}
 use Rattle.judging.proofs.judge.first_flaw.Goals as goal
 
-pub first_unringed-requires : goal.first_unringed-requires
-first_unringed-requires c =
-    let n = vec_len c.args.pairs.now.fans.last in
-    record { single = c.in_default.ensures.lowest n; matched = c.in_default-first_unmet.ensures.lowest n }
-
 pub returns-in-Some-first_unringed : goal.returns-in-Some-first_unringed
 returns-in-Some-first_unringed c =
     let cs = c.args.pairs.now.fans.corners.now in

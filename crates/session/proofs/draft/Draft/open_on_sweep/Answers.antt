@@ -7,10 +7,10 @@ use Rattle.session.proofs.draft.Draft.open_on_sweep.Goals as goal
 
 pub returns-in-Ok : goal.returns-in-Ok
 returns-in-Ok c =
+    let on = c.opened_on.ensures.opened in
     let W = c.in-Ok.ensures.outcome in
-    record {
-      replied = opened_replied by_sweep fraction_order Sweep c.args.self.named c.args.self.gathering c.new.result refl c.in-Ok.opened c.counts-counts.result W c.counts-counts.ensures.counted;
-    }
+    rw (on.state_is, on.reply_is)
+    (record { replied = opened_replied by_sweep fraction_order Sweep c.args.self.named c.args.self.gathering c.new.result refl c.in-Ok.opened on.counts W on.counted })
 
 pub returns-in-Err : goal.returns-in-Err
 returns-in-Err c =

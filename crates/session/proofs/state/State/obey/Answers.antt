@@ -1,4 +1,5 @@
-use Rattle.std.proofs.Common.{◌≡◌, ℕ, List, refl, Bor}
+use Rattle.std.proofs.Common.{◌≡◌, ℕ, List, refl, pos, Bor}
+use Rattle.judging.specs.declared.verdict.Counts.{Counts}
 use Rattle.ledger.specs.declared.call.Call.{Call as A-call}
 use Rattle.session.specs.Replies as rule
 use Rattle.session.specs.Replies.{Gathers, Works}
@@ -27,13 +28,20 @@ gathers (Call c) x w e = x c refl
 gathers Write x w e = w refl
 gathers End x w e = e refl
 
+no_counts : (n : Counts) → (n.vertices ≡ 0) × ((n.triangles ≡ 0) × ((n.euler ≡ pos 0) × (n.pieces ≡ 0))) → n ≡ record { vertices = 0; triangles = 0; euler = pos 0; pieces = 0 }
+no_counts n (v, (t, (e, p))) =
+    let whole : record { vertices = n.vertices; triangles = n.triangles; euler = n.euler; pieces = n.pieces } ≡ record { vertices = 0; triangles = 0; euler = pos 0; pieces = 0 } = rw (v, t, e, p) refl in
+    whole
+
 pub returns-after-command : goal.returns-after-command
 returns-after-command c =
     elim c.match-command.branch [
       | in-Name w ↦ rw (c.in-Gathering.is, w.in-Name.is, w.draft-is, w.answer-is) (record { replied = w.name-answer.ensures.replied })
       | in-Vertex w ↦ rw (c.in-Gathering.is, w.in-Vertex.is, w.draft-is, w.answer-is) (record { replied = w.vertex-answer.ensures.replied })
       | in-Triangle w ↦ rw (c.in-Gathering.is, w.in-Triangle.is, w.draft-is, w.answer-is) (record { replied = w.triangle-answer.ensures.replied })
-      | in-End w ↦ rw (c.in-Gathering.is, w.in-End.is, w.draft-is, w.answer-is) (record { replied = rule.Replied.obeyed rule.Obeys.end_early })
+      | in-End w ↦
+          rw (c.in-Gathering.is, w.in-End.is, w.draft-is, w.answer-is, no_counts w.default.result w.default.ensures)
+          (record { replied = rule.Replied.obeyed rule.Obeys.end_early })
       | in_default w ↦
           let d = w.in_default in
           rw (c.in-Gathering.is, w.draft-is, w.answer-is)

@@ -1,35 +1,9 @@
-use Rattle.std.proofs.Common.{◌≡◌, ℕ, ◌+◌, ◌<◌, Bool, false, List, [], length, get_or, replicate, vec_items, vec_len, vec_capacity, sym, refl, ap, ◌∙◌, subst, arith}
+use Rattle.std.proofs.Common.{◌≡◌, ℕ, ◌+◌, ◌<◌, Bool, false, List, [], length, vec_items, vec_len, vec_capacity, sym, ap, ◌∙◌, subst, arith}
 use Rattle.std.proofs.lemmas.List.{get_or_read, with_items_is}
 use Rattle.judging.specs.Floods.{Level, Settled, Found, Flooded}
-use Rattle.judging.proofs.Floods.{found_none, found_seen, found_more, found_all, settled_none, level_none, carried}
+use Rattle.judging.proofs.Floods.{found_seen, found_more, found_all, carried}
 use Rattle.judging.proofs.judge.fans.Fans.count_pieces.Goals as goal
 use Rattle.judging.proofs.judge.fans.Fans.count_pieces.Goals.{then-not-index, else-not-index}
-
-pub loop-v-init : goal.loop-v-init
-loop-v-init c =
-    let cs = c.args.self.now.corners.now in
-    let n = vec_len c.args.self.now.last in
-    let P : List Bool → List ℕ → Type 0 = λ s q. Found cs n 0 0 s × Settled cs s × Level n s q × (q ≡ []) in
-    let none = c.in_ok-seen.ensures.items_if_clones_equal (λ y e. e) ∙ ap (λ (k : ℕ). replicate k false) c.len.ensures in
-    let (F, Z, L, empty) = carried {a = replicate n false} P none c.in_ok-waiting.ensures.items (found_none cs n, settled_none cs n, level_none n, refl) in
-    (F, Z, L, empty, omega (arith, c.len-2.ensures, c.in_ok-waiting.ensures.capacity))
-
-pub flood-requires : goal.flood-requires
-flood-requires c =
-    let (F, Z, L, none, room) = c.loop-v.invariant in
-    let e = c.deref_mut.ensures.value in
-    let l : c.loop-v.v < length (vec_items c.loop-v.seen) = omega (arith, L.flags, c.len-v-end.ensures, c.loop-v-test.true) in
-    record {
-      known = omega (arith, c.len-v-end.ensures, c.loop-v-test.true);
-      unseen = ap (λ (s : List Bool). get_or s c.loop-v.v false) e ∙ sym (get_or_read _ _ _ l c.index.ensures false) ∙ c.if-not-index.true;
-      level = subst (λ (s : List Bool). Level (vec_len c.args.self.now.last) s (vec_items c.loop-v.waiting)) (sym e) L;
-      none = none;
-      room = room;
-      settled = subst (λ (s : List Bool). Settled c.args.self.now.corners.now s) (sym e) Z;
-    }
-
-pub overflow_add-pieces : goal.overflow_add-pieces
-overflow_add-pieces c = omega (arith, c.loop-v.invariant.0.few, c.args.self.now.few_vertices, c.len-v-end.ensures, c.loop-v-test.true)
 
 pub loop-v-preserved : goal.loop-v-preserved
 loop-v-preserved c =

@@ -1,13 +1,8 @@
 use Rattle.std.proofs.Common.{ℕ, true, false, List, length, get_or, set, vec_items, vec_len, sym, ap, ◌∙◌, subst, arith}
 use Rattle.std.proofs.lemmas.List.{length_push}
 use Rattle.judging.specs.Floods.{Level, Flooding}
-use Rattle.judging.proofs.Floods.{count_most, flooding_none, flooding_more, flooding_settled, flooding_all, level_room, level_more, level_popped, popped_below, no_entries}
+use Rattle.judging.proofs.Floods.{count_most, flooding_none, flooding_more, flooding_settled, flooding_all, level_more, level_popped, popped_below, no_entries}
 use Rattle.judging.proofs.judge.fans.Fans.flood.Goals as goal
-
-pub push_reserved-requires : goal.push_reserved-requires
-push_reserved-requires c =
-    let k = level_room c.requires.level _ c.requires.known c.requires.unseen in
-    omega (arith, c.requires.room, c.args.waiting.now.ok.0)
 
 pub loop-x-init : goal.loop-x-init
 loop-x-init c =

@@ -1,7 +1,7 @@
 use Rattle.std.proofs.Common.{ℕ, get_or, set, Some, None, Option, sym, subst, arith}
 use Rattle.judging.specs.Sides.{Marking}
 use Rattle.judging.proofs.Chains.{begun, stepped}
-use Rattle.judging.proofs.Marks.{marking_start, marking_more, marking_end, standing_at, inside_next}
+use Rattle.judging.proofs.Marks.{marking_start, marking_more, inside_next}
 use Rattle.judging.proofs.judge.fans.Fans.mark_ends.Goals as goal
 
 pub loop-h-init : goal.loop-h-init
@@ -10,13 +10,6 @@ loop-h-init c =
     let out = c.outgoing-h-items.ensures in
     let (e, f) = begun c.into_iter-h-iterator.ensures.into_iter_gives out.link out.at in
     (e, subst (λ (r : Option ℕ). Marking fans.corners.now c.args.u r c.args.marks.now) (sym f) (marking_start fans.chained c.args.u c.args.marks.now c.requires.vertex c.requires.below))
-
-pub following-requires : goal.following-requires
-following-requires c =
-    let fans = c.args.self.now in
-    let e = sym c.in-Some.ensures.steps.0 in
-    let s = standing_at fans.corners.now c.args.u c.loop-h.invariant.1.stands e in
-    record { small = omega (arith, s.0, fans.few) }
 
 pub offset_bounds-self-following : goal.offset_bounds-self-following
 offset_bounds-self-following c =
@@ -31,13 +24,6 @@ bounds-self-following c =
     let e = sym c.in-Some.ensures.steps.0 in
     inside_next fans.corners.now c.args.u c.loop-h.invariant.1.stands e c.following.result fans.threes c.following.ensures.value
 
-pub bounds-marks-end : goal.bounds-marks-end
-bounds-marks-end c =
-    let fans = c.args.self.now in
-    let e = sym c.in-Some.ensures.steps.0 in
-    let p = fans.numbered c.following.result (inside_next fans.corners.now c.args.u c.loop-h.invariant.1.stands e c.following.result fans.threes c.following.ensures.value) in
-    omega arith
-
 pub loop-h-preserved : goal.loop-h-preserved
 loop-h-preserved c =
     let fans = c.args.self.now in
@@ -51,8 +37,3 @@ loop-h-preserved c =
           (subst (λ (x : ℕ). Marking cs u (get_or (fans.link.items) h None) (set c.loop-h.marks (get_or cs x 0) (Some h))) (sym c.following.ensures.value)
           (marking_more fans.chained u c.loop-h.marks fans.numbered (omega arith) fans.threes h I)),
     )
-
-pub returns : goal.returns
-returns c =
-    let cs = c.args.self.now.corners.now in
-    record { marked = marking_end cs c.args.u c.loop-h.marks (subst (λ (r : Option ℕ). Marking cs c.args.u r c.loop-h.marks) (sym c.in-None.ensures.steps.0) c.loop-h.invariant.1) }

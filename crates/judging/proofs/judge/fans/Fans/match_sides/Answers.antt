@@ -2,22 +2,10 @@ use Rattle.std.proofs.Common.{◌≡◌, ℕ, length, get_or, set, Some, None, O
 use Rattle.surface.specs.Surface.{next, prev}
 use Rattle.judging.specs.Chains.{Standing}
 use Rattle.judging.specs.Sides.{Passed, Found, LowestSide}
-use Rattle.judging.proofs.Chains.{stand_start, stand_step, begun, stepped}
+use Rattle.judging.proofs.Chains.{stand_step, stepped}
 use Rattle.judging.proofs.Marks.{next_inside, inside_next, standing_at}
-use Rattle.judging.proofs.Found.{found_start, found_more, found_end}
+use Rattle.judging.proofs.Found.{found_more}
 use Rattle.judging.proofs.judge.fans.Fans.match_sides.Goals as goal
-
-pub loop-h-init : goal.loop-h-init
-loop-h-init c =
-    let fans = c.args.self.now in
-    let cs = fans.corners.now in
-    let u = c.args.u in
-    let out = c.outgoing-h-items.ensures in
-    let (e, f) = begun c.into_iter-h-iterator.ensures.into_iter_gives out.link out.at in (
-      e,
-      subst (λ (r : Option ℕ). Standing cs u r) (sym f) (stand_start fans.chained u c.requires.vertex),
-      subst (λ (r : Option ℕ). Found cs (Passed cs u r) c.args.first.now c.args.twin.now) (sym f) (found_start fans.chained u c.requires.vertex c.requires.so_far),
-    )
 
 pub following-before-requires : goal.following-before-requires
 following-before-requires c =
@@ -36,12 +24,6 @@ bounds-self-after c =
     let fans = c.args.self.now in
     inside_next fans.corners.now c.args.u c.loop-h.invariant.1 (sym c.in-Some.ensures.steps.0) c.following-after.result fans.threes c.following-after.ensures.value
 
-pub marked-requires : goal.marked-requires
-marked-requires c =
-    let fans = c.args.self.now in
-    let p = fans.numbered c.following-after.result (inside_next fans.corners.now c.args.u c.loop-h.invariant.1 (sym c.in-Some.ensures.steps.0) c.following-after.result fans.threes c.following-after.ensures.value) in
-    record { ready = c.requires.ready; vertex = omega arith }
-
 pub offset_bounds-self-before : goal.offset_bounds-self-before
 offset_bounds-self-before c =
     let fans = c.args.self.now in
@@ -55,14 +37,6 @@ bounds-self-before c =
     let p = inside_next fans.corners.now c.args.u c.loop-h.invariant.1 (sym c.in-Some.ensures.steps.0) c.following-after.result fans.threes c.following-after.ensures.value in
     let q = next_inside (length fans.corners.now) c.following-after.result fans.threes p in
     omega arith
-
-pub marked-requires-in-loop-h : goal.marked-requires-in-loop-h
-marked-requires-in-loop-h c =
-    let fans = c.args.self.now in
-    let p = inside_next fans.corners.now c.args.u c.loop-h.invariant.1 (sym c.in-Some.ensures.steps.0) c.following-after.result fans.threes c.following-after.ensures.value in
-    let q = next_inside (length fans.corners.now) c.following-after.result fans.threes p in
-    let r = fans.numbered c.following-before.result (omega arith) in
-    record { ready = c.requires.ready; vertex = omega arith }
 
 pub offset_bounds-twin-before : goal.offset_bounds-twin-before
 offset_bounds-twin-before c =
@@ -97,10 +71,3 @@ loop-h-preserved c =
       subst (λ (r : Option ℕ). Standing cs u r) (sym at) (stand_step fans.chained u h s.0 s.1),
       subst (λ (r : Option ℕ). Found cs (Passed cs u r) (set c.loop-h.first h c.marked.result) (set c.loop-h.twin c.following-before.result c.marked-in-loop-h.result)) (sym at) G,
     )
-
-pub returns : goal.returns
-returns c =
-    let fans = c.args.self.now in
-    let cs = fans.corners.now in
-    let F = subst (λ (r : Option ℕ). Found cs (Passed cs c.args.u r) c.loop-h.first c.loop-h.twin) (sym c.in-None.ensures.steps.0) c.loop-h.invariant.2 in
-    record { found = found_end fans.chained c.args.u F }

@@ -1,13 +1,7 @@
 use Rattle.std.proofs.Common.{◌≡◌, ℕ, vec_len, subst, arith}
 use Rattle.judging.specs.Sides.{BeginsBelow, Found}
-use Rattle.judging.proofs.Marks.{marks_none}
-use Rattle.judging.proofs.Found.{found_none, found_all}
+use Rattle.judging.proofs.Found.{found_all}
 use Rattle.judging.proofs.judge.fans.Fans.pair_sides.Goals as goal
-
-pub loop-u-init : goal.loop-u-init
-loop-u-init c =
-    let cs = c.args.self.now.corners.now in
-    (marks_none cs c.args.marks.now c.requires.unmarked, found_none cs c.args.first.now c.args.twin.now c.requires.first_room c.requires.twin_room)
 
 pub returns : goal.returns
 returns c =

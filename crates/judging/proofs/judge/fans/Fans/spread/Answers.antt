@@ -1,15 +1,8 @@
 use Rattle.std.proofs.Common.{ℕ, ◌<◌, true, List, length, get_or, set, vec_items, vec_len, Option, sym, subst, arith}
 use Rattle.judging.specs.Floods.{Level, Grown, Walked}
-use Rattle.judging.proofs.Chains.{begun, stepped}
-use Rattle.judging.proofs.Floods.{marked_more, grown_none, grown_more, walked_none, walked_at, walked_seen, walked_unseen, walked_all, level_room, level_more}
+use Rattle.judging.proofs.Chains.{stepped}
+use Rattle.judging.proofs.Floods.{marked_more, grown_more, walked_at, walked_seen, walked_unseen, level_room, level_more}
 use Rattle.judging.proofs.judge.fans.Fans.spread.Goals as goal
-
-pub loop-h-init : goal.loop-h-init
-loop-h-init c =
-    let fans = c.args.self.now in
-    let out = c.outgoing-h-items.ensures in
-    let (e, f) = begun c.into_iter-h-iterator.ensures.into_iter_gives out.link out.at in
-    (grown_none _ _, (e, subst (λ (r : Option ℕ). Walked fans.corners.now c.args.x r c.args.seen.now) (sym f) (walked_none fans.chained c.requires.known _)), c.requires.level, c.requires.room)
 
 pub offset_bounds-self-following : goal.offset_bounds-self-following
 offset_bounds-self-following c =
@@ -21,18 +14,6 @@ pub bounds-self-following : goal.bounds-self-following
 bounds-self-following c =
     let fans = c.args.self.now in
     (walked_at fans.threes fans.numbered c.loop-h.invariant.1.1 (sym c.in-Some.ensures.steps.0) c.following.ensures.value).0
-
-pub bounds-seen-y : goal.bounds-seen-y
-bounds-seen-y c =
-    let fans = c.args.self.now in
-    let (_, l, _) = walked_at fans.threes fans.numbered c.loop-h.invariant.1.1 (sym c.in-Some.ensures.steps.0) c.following.ensures.value in
-    omega (arith, c.loop-h.invariant.2.flags)
-
-pub bounds-seen-y-then-not-seen-y : goal.bounds-seen-y-then-not-seen-y
-bounds-seen-y-then-not-seen-y c =
-    let fans = c.args.self.now in
-    let (_, l, _) = walked_at fans.threes fans.numbered c.loop-h.invariant.1.1 (sym c.in-Some.ensures.steps.0) c.following.ensures.value in
-    omega (arith, c.loop-h.invariant.2.flags)
 
 pub push_reserved-requires : goal.push_reserved-requires
 push_reserved-requires c =
@@ -63,12 +44,3 @@ loop-h-preserved c =
     let (at, next, same) = stepped c.loop-h.h-iterator c.next.new.self link c.in-Some.ensures.steps in
     let V = walked_seen fans.chained W at c.following.ensures.value c.if-not-seen-y.false in
     (G, (same, subst (λ (r : Option ℕ). Walked fans.corners.now c.args.x r c.loop-h.seen) (sym next) V), L, room)
-
-pub returns : goal.returns
-returns c =
-    record {
-      grown = c.loop-h.invariant.0;
-      spread = walked_all c.loop-h.invariant.1.1 (sym c.in-None.ensures.steps.0);
-      level = c.loop-h.invariant.2;
-      room = c.loop-h.invariant.3;
-    }

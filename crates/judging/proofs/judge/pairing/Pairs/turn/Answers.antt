@@ -14,9 +14,6 @@ before c =
     let pairs = c.args.self.now in
     omega (arith, before_is c, prev_inside (length pairs.twin.items) c.args.h (omega (arith, pairs.paired.long_twin, pairs.fans.threes)) c.requires.inside)
 
-pub following-requires : goal.following-requires
-following-requires c = let pairs = c.args.self.now in record { small = omega (arith, pairs.paired.long_twin, pairs.fans.few, c.requires.inside) }
-
 pub following-before-requires : goal.following-before-requires
 following-before-requires c =
     let pairs = c.args.self.now in
