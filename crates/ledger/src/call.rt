@@ -63,7 +63,7 @@ impl Refusal {
 }
 
 /// What a call answers; `C` is what a collapse costs.
-// Kept: a refusal is an answer by a rule of its own in the one relation of calls and answers; a Result would split each rule in two.
+// Kept: the ledger is one relation of calls and answers, and a refusal is an answer by a rule of its own; a Result would name two types for one thing.
 #[derive(Drop)]
 pub enum Answer<C> {
     /// The cost of the collapse, as it was before the collapse.

@@ -15,7 +15,7 @@ mod turns;
 
 #[derive(Drop)]
 pub struct HalfEdges {
-    // Kept as lists of their own: an edit rewrites one of them while it reads another, and each fact below is of one list.
+    // Kept as lists of their own: an edit rewrites one of them while it reads another.
     // by half-edge: the vertex at which it begins, and the half-edge that runs opposite
     corners: Vec<u16>,
     twin: Vec<u16>,

@@ -26,7 +26,7 @@ fn walk(corners: &mut [u16], twin: &[u16], first: u16, last: u16, v: u16)
 }
 
 /// Writes `v` at the half-edges round the vertex between the triangles of `e` and `f`, from behind the one to behind the other.
-// Kept: each step of an edit asks `beside` again, since the twins that it is about change between the steps.
+// Kept: `beside` is a fact of two numbers and of the list of twins, which `cross` and `uncross` write, so a struct of the numbers alone can't have it.
 fn turn(corners: &mut [u16], twin: &[u16], e: u16, f: u16, v: u16)
     requires beside { Beside twin.now e f }
     requires ready { Walkable corners.old twin.now (slice_index twin.now (prev e)) (next (slice_index twin.now (next f))) v }
