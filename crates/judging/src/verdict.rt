@@ -15,7 +15,7 @@ pub struct Counts {
 }
 
 /// The first rule that a gathered surface breaks, with the lowest triangle or vertex concerned.
-#[derive(Clone, Copy)]
+#[derive(Clone, Copy, PartialEq, Eq, Debug)]
 pub enum Flaw {
     NoTriangle,
     SideTwice(u16),
@@ -25,7 +25,7 @@ pub enum Flaw {
 }
 
 /// Why judging answers no counts.
-#[derive(Clone, Copy)]
+#[derive(Clone, Copy, PartialEq, Eq, Debug)]
 pub enum Unjudged {
     Flawed(Flaw),
     NoMemory,

@@ -5,3 +5,4 @@ pub mod Volumes
 pub mod Values
 pub mod Exact
 pub mod OnMesh
+pub mod Fitting

@@ -1,5 +1,5 @@
 //! The gauge by planes.
-ghost use Rattle.std.specs.Prelude.{◌≤◌, vec_capacity};
+ghost use Rattle.std.specs.Prelude.{◌≤◌, vec_capacity, vec_len};
 
 use crate::quadric::Quadric;
 
@@ -13,4 +13,5 @@ pub struct Planes {
     // how many vertices it takes
     capacity: usize,
     ghost room: { capacity ≤ vec_capacity table },
+    ghost within: { vec_len table ≤ capacity },
 }

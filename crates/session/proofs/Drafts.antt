@@ -19,6 +19,7 @@ use Rattle.opened_surface.specs.declared.opened.opening.Unopened.{Unopened}
 use Rattle.opened_surface.specs.declared.opened.opening.Why.{Why}
 use Rattle.opened_surface.specs.declared.opened.opening.Why.TheVariants as why
 use Rattle.session.specs.Back.{BackWith}
+use Rattle.session.specs.Fits.{Fits}
 use Rattle.session.specs.Gauges.{gauge_number, most_vertices}
 use Rattle.session.specs.Held.{gathering, opened, held}
 use Rattle.session.specs.Replies as rule
@@ -30,6 +31,10 @@ use Rattle.session.specs.declared.refusal.Refusal.TheVariants as no
 use Rattle.session.specs.declared.reply.Reply.{Reply}
 use Rattle.session.specs.declared.reply.Reply.TheVariants as reply
 use Rattle.session.specs.declared.state.State.{State}
+
+-- what is refused is gathered on, with calls and without them
+pub back_fits : (g : Gathering) (named : Bool) (why : Why) (state : State) (r : Result Reply Refusal) → BackWith g named why state r → (calls : Bool) → Fits calls state
+back_fits g named why state r B calls = rw B.state_is tt
 
 module _ {G C E Z : Type 0} (m : Ghosts G C E Z) (o : Order C) (on : Gauge) (named : Bool) (g : Gathering) (gauge : G) (most : m.capacity gauge ≡ most_vertices on) where
   -- it is opened

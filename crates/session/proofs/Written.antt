@@ -1,8 +1,9 @@
 -- What stands in the answer after the last part of a line.
-use Rattle.std.proofs.Common.{◌≡◌, ℕ, ◌+◌, ◌*◌, true, false, cond, List, [], ◌∷◌, ◌++◌, is_ok, IfOk, Ok, Err, Result, sym, refl, ap, ◌∙◌, append_assoc, append-nil, add-one}
+use Rattle.std.proofs.Common.{◌≡◌, ℕ, ◌+◌, ◌*◌, true, false, cond, List, [], ◌∷◌, ◌++◌, slice_index, is_ok, IfOk, Ok, Err, Result, sym, refl, ap, ◌∙◌, append_assoc, append-nil, add-one}
 use Rattle.surface.specs.Surface.{Surface, next, prev}
 use Rattle.surface.proofs.Tris.{second_is, third_is}
 use Rattle.session.specs.Lines.{Line, triangle, text, texts, triangle_line, triangle_lines}
+use Rattle.session.specs.Still.{gathered_lines}
 
 pub last_part : {T E : Type 0} (r : Result T E) (was end more whole : List ℕ) → end ≡ cond (is_ok r) (was ++ more) was → was ++ more ≡ whole → IfOk r (λ _. end ≡ whole)
 last_part (Ok x) was end more whole e w = e ∙ w
@@ -36,3 +37,10 @@ module _ (S : Surface) (start was : List ℕ) (t : ℕ) (e : was ≡ start ++ te
 
   pub no_triangle : S.alive t ≡ false → was ≡ start ++ texts (triangle_lines S (t + 1))
   no_triangle dead = e ∙ rw (add-one t, dead, append-nil) refl
+
+-- the line of the gathered triangle t after those of the triangles before it
+pub more_gathered : (start was end cs : List ℕ) (t : ℕ) → was ≡ start ++ texts (gathered_lines cs t) → end ≡ was ++ text (triangle t (slice_index cs (3 * t)) (slice_index cs (3 * t + 1)) (slice_index cs (3 * t + 2))) → end ≡ start ++ texts (gathered_lines cs (t + 1))
+more_gathered start was end cs t e f =
+    let l = triangle t (slice_index cs (3 * t)) (slice_index cs (3 * t + 1)) (slice_index cs (3 * t + 2)) in
+    more_lines start was end (gathered_lines cs t) (l ∷ []) e (f ∙ ap (λ (b : List ℕ). was ++ b) (one_line l))
+    ∙ ap (λ (n : ℕ). start ++ texts (gathered_lines cs n)) (sym (add-one t))

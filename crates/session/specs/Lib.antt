@@ -6,6 +6,7 @@ pub mod Gauges
 pub mod Calls
 pub mod Answers
 pub mod Held
+pub mod Fits
 pub mod Replies
 pub mod Session
 pub mod Still

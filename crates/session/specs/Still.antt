@@ -4,6 +4,7 @@ use Rattle.gathering.specs.Model.{triangle_count}
 use Rattle.geometry.specs.declared.Position.{Position}
 use Rattle.judging.specs.Verdict.{Judged}
 use Rattle.judging.specs.declared.verdict.Counts.{Counts}
+use Rattle.ledger.specs.Book.{Book}
 use Rattle.opened_surface.specs.Openings.{first_book}
 use Rattle.session.specs.Held.{Held, gathering, opened}
 use Rattle.session.specs.Lines.{Line, triangle}
@@ -25,6 +26,10 @@ pub data AsOpened : Held → Type 0 where
 -- a command that is no call keeps it so
 abbrev pub StaysOpened : Type 0
 StaysOpened = (h k : Held) (c : Command) (r : Result Reply Refusal) → Known false c → Replied h c r k → AsOpened h → AsOpened k
+
+-- more exactly, the gauge and all that the book has stay
+abbrev pub KeepsOpened : Type 0
+KeepsOpened = (on : Gauge) (b : Book) (c : Command) (k : Held) (r : Result Reply Refusal) → Replied (opened on b) c r k → Known false c → k ≡ opened on b
 
 -- the lines of the first n triangles, by rising number, where the corners stand three by three
 abbrev pub gathered_lines : List ℕ → ℕ → List Line

@@ -1,6 +1,7 @@
 //! The surface while it is being gathered.
-ghost use Rattle.std.specs.Prelude.{IfOk};
+ghost use Rattle.std.specs.Prelude.{Bool, false, IfOk};
 ghost use Rattle.session.specs.Back.{BackWith, OpenedOn};
+ghost use Rattle.session.specs.Fits.{Fits};
 ghost use Rattle.session.specs.Gauges.{gauge_number};
 ghost use Rattle.session.specs.Held.{held, held_draft};
 ghost use Rattle.session.specs.Replies.{Replied};
@@ -12,8 +13,11 @@ use crate::hull::Hull;
 use crate::refusal::Refusal;
 use crate::reply::Reply;
 use crate::state::State;
+use crate::still::Still;
 use gathering::gathering::Gathering;
-use opened_surface::opened::opening::{Unopened, Why, open};
+use judging::judge::judge;
+use judging::verdict::Unjudged;
+use opened_surface::opened::opening::{OpenRefusal, Unopened, Why, open};
 use planes::planes::Planes;
 use std::alloc::{AllocError, Global};
 use sweep::Sweep;
@@ -22,7 +26,7 @@ use sweep::Sweep;
 const MOST_NAME: usize = 40;
 
 /// How many vertices a surface may have that is opened on planes.
-const PLANES_ENTRIES: usize = 400;
+pub const PLANES_ENTRIES: usize = 400;
 
 /// What is gathered, and whether the hold has its name.
 #[derive(Drop)]
@@ -59,19 +63,59 @@ impl Draft {
         Ok(Reply::Nothing)
     }
 
-    /// Opens the surface on the gauge of this number.
-    pub fn open<'a>(
+    /// Opens the surface on the gauge of this number, for calls where `CALLS` is true.
+    pub fn open<'a, const CALLS: bool>(
         self,
         heap: Global,
         number: u8,
     ) -> Result<(State, Result<Reply<'a>, Refusal>), AllocError>
         ensures replied { IfOk result (λ p. Replied (held_draft self) (Open number) p.1 (held p.0)) }
+        ensures fit { IfOk result (λ p. Fits CALLS p.0) }
     {
-        match Gauge::try_from(number) {
-            Ok(Gauge::Planes) => self.open_on_planes(heap),
-            Ok(Gauge::Sweep) => self.open_on_sweep(heap),
-            Err(why) => Ok((State::Gathering(self), Err(why))),
+        let gauge = match Gauge::try_from(number) {
+            Ok(gauge) => gauge,
+            Err(why) => return Ok((State::Gathering(self), Err(why))),
+        };
+        if !CALLS {
+            return self.judged_on(heap, gauge);
         }
+        match gauge {
+            Gauge::Planes => self.open_on_planes(heap),
+            Gauge::Sweep => self.open_on_sweep(heap),
+        }
+    }
+
+    // Judges the surface and keeps it as it was gathered, if it has no flaw and the gauge takes that many vertices.
+    fn judged_on<'a>(
+        self,
+        heap: Global,
+        gauge: Gauge,
+    ) -> Result<(State, Result<Reply<'a>, Refusal>), AllocError>
+        ensures replied { IfOk result (λ p. Replied (held_draft self) (Open (gauge_number gauge)) p.1 (held p.0)) }
+        ensures fit { IfOk result (λ p. Fits false p.0) }
+    {
+        let counts = match judge(heap, &self.gathering) {
+            Ok(counts) => counts,
+            Err(Unjudged::NoMemory) => return Err(AllocError),
+            Err(Unjudged::Flawed(flaw)) => {
+                return Ok((
+                    State::Gathering(self),
+                    Err(Refusal::Open(OpenRefusal::Flawed(flaw))),
+                ));
+            }
+        };
+        if self.gathering.positions().len() > gauge.most_vertices() {
+            return Ok((
+                State::Gathering(self),
+                Err(Refusal::Open(OpenRefusal::TooManyVertices)),
+            ));
+        }
+        let still = Still {
+            gathering: self.gathering,
+            counts,
+            gauge,
+        };
+        Ok((State::Still(still), Ok(Reply::Opened(counts))))
     }
 
     // Kept: one body for both gauges needs `Hull` to be `From` any opened surface, with a law on its gauge and its mesh, and is longer than the two.
@@ -80,6 +124,7 @@ impl Draft {
         heap: Global,
     ) -> Result<(State, Result<Reply<'a>, Refusal>), AllocError>
         ensures replied { IfOk result (λ p. Replied (held_draft self) (Open (gauge_number on_planes)) p.1 (held p.0)) }
+        ensures fit { (calls : Bool) → IfOk result (λ p. Fits calls p.0) }
     {
         let Draft { gathering, named } = self;
         let gauge = Planes::new(heap, PLANES_ENTRIES)?;
@@ -94,6 +139,7 @@ impl Draft {
         heap: Global,
     ) -> Result<(State, Result<Reply<'a>, Refusal>), AllocError>
         ensures replied { IfOk result (λ p. Replied (held_draft self) (Open (gauge_number on_sweep)) p.1 (held p.0)) }
+        ensures fit { (calls : Bool) → IfOk result (λ p. Fits calls p.0) }
     {
         let Draft { gathering, named } = self;
         match open(heap, gathering, Sweep::new()) {

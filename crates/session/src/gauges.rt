@@ -1,6 +1,8 @@
 //! The gauges that a surface is opened with.
-ghost use Rattle.session.specs.Gauges.{Numbered};
+ghost use Rattle.std.specs.Prelude.{◌≡◌};
+ghost use Rattle.session.specs.Gauges.{most_vertices, Numbered};
 
+use crate::draft::PLANES_ENTRIES;
 use crate::refusal::Refusal;
 
 /// What a collapse costs by: the planes of the triangles, or the volume that it sweeps.
@@ -8,6 +10,18 @@ use crate::refusal::Refusal;
 pub enum Gauge {
     Planes,
     Sweep,
+}
+
+impl Gauge {
+    /// The most vertices that a surface may have that is opened on the gauge.
+    pub fn most_vertices(self) -> usize
+        ensures value { result ≡ most_vertices self }
+    {
+        match self {
+            Gauge::Planes => PLANES_ENTRIES,
+            Gauge::Sweep => 1024,
+        }
+    }
 }
 
 impl TryFrom<u8> for Gauge {

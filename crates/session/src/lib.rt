@@ -14,5 +14,6 @@ mod refusal;
 mod reply;
 pub mod run;
 mod state;
+mod still;
 #[cfg(test)]
 mod tests;

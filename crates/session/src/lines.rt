@@ -1,9 +1,11 @@
 //! The lines of the answer.
 ghost use Rattle.std.specs.Prelude.{◌≡◌, ◌++◌, vec_len, OnOk};
+ghost use Rattle.gathering.specs.Model.{triangle_count};
 ghost use Rattle.mesh.specs.Model.{held};
 ghost use Rattle.session.specs.Lines.{text, texts, triangle_lines, after, newline, four, numbers, named, triangle, refused};
 ghost use Rattle.session.specs.Numbers.{number as number_of};
 ghost use Rattle.session.specs.Session.{fault_lines};
+ghost use Rattle.session.specs.Still.{gathered_lines};
 
 use crate::command::Fault;
 use crate::refusal::Refusal;
@@ -70,6 +72,17 @@ pub fn write_triangles(out: &mut Vec<u8>, edges: &HalfEdges) -> Result<(), Alloc
         if edges.is_live(h) {
             write_triangle(out, t, edges.start(h), edges.end(h), edges.third(h))?;
         }
+    }
+    Ok(())
+}
+
+/// A line for each triangle of these corners, three each, by rising number.
+pub fn write_gathered(out: &mut Vec<u8>, corners: &[u16]) -> Result<(), AllocError>
+    ensures written { OnOk result (out.new.items ≡ out.old.items ++ texts (gathered_lines corners.now (triangle_count corners.now))) }
+{
+    for t in 0..corners.len() / 3 {
+        let [a, b, c] = [corners[3 * t], corners[3 * t + 1], corners[3 * t + 2]];
+        write_triangle(out, t, a, b, c)?;
     }
     Ok(())
 }

@@ -1,7 +1,7 @@
 use Rattle.std.proofs.lemmas.Result.{IfOk-weaker}
 use Rattle.planes.specs.Meaning.{by_planes, whole_order}
 use Rattle.session.specs.declared.gauges.Gauge.TheVariants.{Planes}
-use Rattle.session.proofs.Drafts.{opened_replied, back_replied}
+use Rattle.session.proofs.Drafts.{opened_replied, back_replied, back_fits}
 use Rattle.session.proofs.draft.Draft.open_on_planes.Goals as goal
 
 pub returns-in-Ok : goal.returns-in-Ok
@@ -9,7 +9,7 @@ returns-in-Ok c =
     let on = c.opened_on.ensures.opened in
     let W = c.in-Ok.ensures.outcome in
     rw (on.state_is, on.reply_is)
-    (record { replied = opened_replied by_planes whole_order Planes c.args.self.named c.args.self.gathering c.in_ok-gauge.gauge c.in_ok-gauge.ensures.made.0 c.in-Ok.opened on.counts W on.counted })
+    (record { replied = opened_replied by_planes whole_order Planes c.args.self.named c.args.self.gathering c.in_ok-gauge.gauge c.in_ok-gauge.ensures.made.0 c.in-Ok.opened on.counts W on.counted; fit = λ calls. tt })
 
 pub returns-in-Err : goal.returns-in-Err
 returns-in-Err c =
@@ -17,4 +17,5 @@ returns-in-Err c =
       replied =
           IfOk-weaker c.not_opened.result _ _
           (λ p. back_replied by_planes whole_order Planes c.args.self.named c.args.self.gathering c.in_ok-gauge.gauge c.in_ok-gauge.ensures.made.0 c.in-Err.unopened c.in-Err.ensures.outcome p.0 p.1) c.not_opened.ensures.back;
+      fit = λ calls. IfOk-weaker c.not_opened.result _ _ (λ p B. back_fits _ _ _ p.0 p.1 B calls) c.not_opened.ensures.back;
     }
