@@ -1,22 +1,12 @@
 //! Reads commands from the standard input, calls among them, and writes the lines of the session to the standard output.
 #![tactic(auto)]
 
-ghost use Rattle.std.specs.Prelude.{◌≡◌, List, true, IfOk};
-ghost use Rattle.session.specs.Lines.{Line, texts};
-ghost use Rattle.session.specs.Session.{Answered};
+mod answer;
 
+use answer::answer;
 use session::input::read_input;
-use session::run::run;
-use std::alloc::{AllocError, Global};
 use std::io;
 use std::io::Write;
-
-// The lines of a session with calls.
-fn answer(heap: Global, input: &[u8]) -> Result<Vec<u8>, AllocError>
-    ensures answered { IfOk result (λ out. (ls : List Line) × Answered true input.now ls × (out.items ≡ texts ls)) }
-{
-    run::<true>(heap, input)
-}
 
 // Kept: one function for both programs would be public and promise nothing, since no clause says which bytes are read or written.
 fn main(rt: HostRuntime) -> io::Result<()> {
